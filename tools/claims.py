@@ -35,6 +35,8 @@ FIELD = re.compile(r"^\s+(?:pub )?(\w+) : ")
 DEFINED = re.compile(r"^\s*(?:abbrev )?pub (?:record |data |abbrev )?([^\s:(]+)")
 IMPORT = re.compile(r"(?:ghost )?use Rattle\.(\w+)\.specs\.([\w.]+)\.\{([^}]*)\}")
 WORD = re.compile(r"[A-Za-z_][\w]*")
+# A clause that a reason names, of whatever crate.
+CITED = re.compile(r"`([a-z_]+)/([\w:.]+)`")
 
 
 @dataclass
@@ -195,10 +197,31 @@ def link(text: str, path: str, line: int = 0) -> str:
     return f"[{text}](../{path}{f'#L{line}' if line else ''})"
 
 
+def links_of(bodies: list[str]) -> str:
+    return ", ".join(link(os.path.basename(it)[: -len(".edit")], it) for it in bodies)
+
+
+def link_reasons(clauses: list[Clause]) -> list[str]:
+    """Makes a link of each clause that a reason names as `CRATE/NAME`, with its wrong bodies, and says which one isn't there."""
+    amiss = []
+    for clause in clauses:
+        for crate, name in CITED.findall(clause.reason):
+            found = [it for it in clauses if it.crate == crate and (it.name == name or it.name.endswith("::" + name))]
+            found = [it for it in found if it.path.endswith(".rt")] or found
+            if len(found) != 1:
+                why = "is no one clause" if found else "is not there"
+                amiss.append(f"{clause.path}:{clause.line}: the reason names {crate}/{name}, which {why}")
+                continue
+            told = link(f"`{found[0].name}`", found[0].path, found[0].line) + f" of `{crate}`"
+            told += f" ({links_of(found[0].bodies)})" if found[0].bodies else ""
+            clause.reason = clause.reason.replace(f"`{crate}/{name}`", told)
+    return amiss
+
+
 def row(clause: Clause, definitions: Definitions) -> str:
     cited = ", ".join(link(f"`{name}`", path, definitions.places[path, name]) for path, name in definitions.cited_by(clause))
-    bodies = ", ".join(link(os.path.basename(it)[: -len(".edit")], it) for it in clause.bodies)
-    return f"| {clause.sentence} | {link(f'`{clause.name}`', clause.path, clause.line)} | {cited} | {bodies or clause.reason} |"
+    refused = links_of(clause.bodies) or clause.reason
+    return f"| {clause.sentence} | {link(f'`{clause.name}`', clause.path, clause.line)} | {cited} | {refused} |"
 
 
 HEAD = """# Claims
@@ -226,7 +249,7 @@ def main() -> int:
     below = crates()
     names = sorted(below)
     clauses = all_clauses(names)
-    amiss = give_bodies(clauses, names)
+    amiss = give_bodies(clauses, names) + link_reasons(clauses)
     tagged = [it for it in clauses if it.sentence]
     amiss += [f"{it.path}:{it.line}: the claim of {it.name} has neither a wrong body nor a reason for having none" for it in tagged
               if not it.bodies and not it.reason]

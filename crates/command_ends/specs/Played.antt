@@ -27,15 +27,35 @@ pub record Played {D : Type 0} (issuer : List ℕ) (asks : List Asked) (coming :
   pub replies : Replies
   pub end : List Entry
   pub found : IsTrue k.tells → IsFound version issuer start (k.on_disk k.disk).content
+  --= The commands of a script are a chain run: each reply is the one that the definition of the answer gives at the
+  --= history before it and at the clock's coming answer of its number.
+  --= No body: it is of `Store::take`: `chain_store/Took.takes`
   pub run : ChainRun version issuer (IsComing coming) start asks replies end
+  --= The history after a script's commands begins with the one that the file stood for.
+  --= No body: it is of `Store::take`: `chain_store/Took.takes`
   pub begins : IsPrefix start end
   pub legal : Legal version issuer end
+  --= After a script's commands the history is a linked chain of the issuer.
+  --= No body: it is of `Store::take`: `chain_store/Took.takes`
   pub linked : Linked issuer (recs end)
+  --= After a script's commands the serials of each till rise strictly.
+  --= No body: it is of `shop_core/plan.answer`
   pub rising : (till : ℕ) → SerialsRise end till
+  --= The first fault of the disk is told as such, by a call in which its count rose; each reply after it says that
+  --= the journal stopped, with the count then, or is out of memory.
+  --= No body: it is of `journal/append.stops`
   pub stops : StopsOnce (k.faults k.disk) (k.faults k.disk_after) replies
+  --= Where the disk tells what it holds, it held the whole history right before the call that failed.
+  --= No body: it is of `Store::take`
   pub fails : AllGoOn replies ⊎ FailsIn k version issuer end
+  --= Each crash since the sync at the opening leaves a front of the history, no shorter than at the start, or of it
+  --= and the one entry that was cut off; after the run the whole.
+  --= No body: it is of `Store::take`, over `journal/append.any_moment`
   pub kept : IsTrue k.tells →
       KeptByRun (StandsSince (k.on_disk k.disk).content version issuer start end)
       (IsCutOff version issuer (IsComing coming) asks end replies) version issuer end replies
       (synced (k.on_disk k.disk)) (k.on_disk k.disk_after)
+  --= The clock that is handed back has moved on by one answer for each reply but those of a stopped journal, or is
+  --= the one that was handed in.
+  --= No body: it is of `Store::take`: `chain_store/Took.takes`
   pub clock : Leaves replies

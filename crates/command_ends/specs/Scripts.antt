@@ -46,6 +46,9 @@ no_script_end NoMemory = detail.NoMemory
 -- the source is a script of this form, which was run; or there is none, and all the rest is untouched
 pub data ScriptedEnds (form : Form) (s : Sources) (untouched : Type 0) (Ran : Script → Detail → Type 0) : Detail → Type 0 where
   ran : (script : Script) (end : Detail) → IsGoodScript form s script → Ran script end → ScriptedEnds form s untouched Ran end
+  --= Where the source is no script, all the rest is untouched: nothing is printed, and neither file nor clock is
+  --= touched.
+  --= No body: each command reads its script first, and hands back what it was given
   bad_line : (line : ℕ) (fault : Word) → IsBadScript form s line fault → untouched →
       ScriptedEnds form s untouched Ran (detail.Script line fault)
   read_fault : ReadFailed s → untouched → ScriptedEnds form s untouched Ran detail.ReadFault

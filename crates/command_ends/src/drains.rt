@@ -34,6 +34,8 @@ pub fn fault_end(fault: DrainFault) -> Detail
 
 /// The end of a drain with this answer, whose text was written or not.
 pub fn end_by(answer: &Result<(), DrainFault>, written: Result<(), Failed>) -> Detail
+    //= A drain's run ends by its answer: out of memory before a fault of the disk, and all others before one of the
+    //= sink.
     ensures { (text : List ℕ) (s : Sinks) → OutputIs s text written → DrainRunEnds answer.now text s result }
 {
     match answer {

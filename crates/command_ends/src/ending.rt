@@ -43,6 +43,8 @@ pub fn lacks_disk(replies: &[Result<Reply, StoreFault>]) -> bool
 /// The end of a run with these replies, whose text was written or not: lack of memory before a fault of the disk, and that
 /// before one of the sink.
 pub fn run_end(replies: &[Result<Reply, StoreFault>], written: Result<(), Failed>) -> Detail
+    //= A run is done only where every command has an answer that is no fault and the sink took its text; out of
+    //= memory goes before a fault of the disk, and this before one of the sink.
     ensures { (text : List ℕ) (s : Sinks) → OutputIs s text written → RunEnds replies.now text s result }
 {
     if lacks_memory(replies) {

@@ -23,6 +23,7 @@ pub fn told_of(
     replies: &[Result<Reply, StoreFault>],
     state: &State,
 ) -> Result<RunText, NoMemory>
+    //= What is printed of a run is its answers in line order, the listing and the chain line.
     ensures { IfOk result (λ told. told.answers ++ told.listing ≡ spec.printed asks.now replies.now state.now.entries) }
 {
     let lines = answers_of(alloc, asks, replies)?;

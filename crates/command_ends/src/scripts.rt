@@ -36,7 +36,11 @@ impl NoScript {
 
 /// The script of this form that the source is, which is read to its end.
 pub fn read_source<S: Source>(alloc: Global, source: &mut S, form: Form) -> Result<Script, NoScript>
+    //= A source is read to its end as a script, or why there is none: it gave more than 16,777,216 bytes, failed
+    //= with its count of faults risen, or this is its first bad line, with its word.
+    //= No body: it is of `read_input` and of `read_script`
     ensures script { ScriptIs form (this_source S.left S.faults source.old source.new) result }
+    //= The first failed read ends the reading of a script, of a source that counts each.
     ensures once { IsTrue S.counts → EndsAtFault (this_source S.left S.faults source.old source.new) result }
 {
     let bytes = match read_input(alloc, source) {

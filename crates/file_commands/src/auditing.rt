@@ -17,8 +17,12 @@ use std::alloc::Global;
 /// there is sound and is left missing. A write fault comes before a broken file.
 pub fn audit_cmd<K: Sink, D: Disk>(alloc: Global, sink: &mut K, disk: D) -> (Ended, D)
     ensures status { result.0.status ≡ status_of result.0.detail }
+    //= `audit` prints the verdict on the file, with 0 where it is sound and 9 where it is broken.
+    //= No body: it is of `audit/audit.verdict`
     ensures ends { AuditEnds (this_sink K.taken K.faults sink.old sink.new)
         (this_disk D.tells D.on_disk D.faults disk result.1) result.0.detail }
+    //= `audit` leaves the file as it was.
+    //= No body: the command calls no write
     ensures same { D.on_disk result.1 ≡ D.on_disk disk }
 {
     let mut disk = disk;

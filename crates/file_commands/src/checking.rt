@@ -35,6 +35,8 @@ pub fn check_cmd<S: Source, K: Sink, D: Disk, R: Threads + Sync>(
 ) -> (Ended, D)
     requires { IsInRange 1 MAX_WORKERS workers }
     ensures status { result.0.status ≡ status_of result.0.detail }
+    //= `check` holds the lines of all that was read against what the file stands for, or against nothing where it
+    //= isn't begun, and prints their answers, one each in order; 12 or 4 come without a look at the file.
     ensures ends { CheckEnds (this_source S.left S.faults source.old source.new)
         (this_sink K.taken K.faults sink.old sink.new)
         (this_disk D.tells D.on_disk D.faults disk result.1) result.0.detail }

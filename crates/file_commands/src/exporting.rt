@@ -18,6 +18,9 @@ use std::alloc::{AllocError, Global};
 /// read; one that isn't begun has no lines. Lack of memory is found before anything is printed.
 pub fn export_cmd<K: Sink, D: Disk>(alloc: Global, sink: &mut K, disk: D) -> (Ended, D)
     ensures status { result.0.status ≡ status_of result.0.detail }
+    //= `export` prints the compact text of the object of issuer and version and of each entry's, in order, an LF
+    //= after each, and nothing where the file isn't begun.
+    //= No body: it is of `head_text` and `entry_text`, whose clauses refuse other lines
     ensures ends { ExportEnds (this_sink K.taken K.faults sink.old sink.new)
         (this_disk D.tells D.on_disk D.faults disk result.1) result.0.detail }
     ensures same { D.on_disk result.1 ≡ D.on_disk disk }

@@ -106,6 +106,8 @@ fn generate<K: Sink>(alloc: Global, n: u32, sink: &mut K) -> Detail
 pub fn generate_cmd<K: Sink>(alloc: Global, n: u32, sink: &mut K) -> Ended
     requires { n ≤ MOST }
     ensures status { result.status ≡ status_of result.detail }
+    //= `generate` prints the summary of the chain that its first N commands make from the empty history, at its own
+    //= readings of the clock.
     ensures ends { GenerateEnds n (this_sink K.taken K.faults sink.old sink.new) result.detail }
 {
     Ended::of(generate(alloc, n, sink))

@@ -19,8 +19,11 @@ pub enum InputFault {
 
 /// All the bytes of a source. Each turn takes one at least.
 pub fn read_input<S: Source>(alloc: Global, source: &mut S) -> Result<Vec<u8>, InputFault>
+    //= A source is read to its end, or it gave more than 16,777,216 bytes, or its count of faults rose.
+    //= No body: it is of `read` of the source
     ensures input { InputIs (this_source S.left S.faults source.old source.new) result }
     ensures later { S.faults source.old ≤ S.faults source.new }
+    //= The first failed read ends the reading, of a source that counts each.
     ensures once { IsTrue S.counts → EndsAtFault (this_source S.left S.faults source.old source.new) result }
 {
     let mut bytes = Vec::new(alloc);

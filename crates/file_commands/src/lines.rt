@@ -25,7 +25,9 @@ pub(crate) fn read_lines(alloc: Global, bytes: &[u8]) -> Result<LinkLines, NoMem
 /// The bytes in at most this many pieces, each cut after a line's end.
 pub(crate) fn cut(alloc: Global, bytes: &[u8], most: usize) -> Result<Vec<&[u8]>, NoMemory>
     requires { 0 < most }
+    //= The lines of the pieces that `check` shares out, one after another, are those of the whole.
     ensures lines { IfOk result (λ pieces. flat_map (λ p. lines_of p.now) pieces.items ≡ lines_of bytes.now) }
+    //= `check` shares its lines out among as many pieces as there are workers, at most.
     ensures few { IfOk result (λ pieces. length pieces.items ≤ most) }
 {
     let size = bytes.len().div_ceil(most);

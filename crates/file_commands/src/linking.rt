@@ -25,6 +25,9 @@ pub fn link_cmd<K: Sink, D: Disk>(
     disk: D,
 ) -> (Ended, D)
     ensures status { result.0.status ≡ status_of result.0.detail }
+    //= `link` prints the link of the last alta of that number; 14 where the chain has none, 7 where the file is
+    //= damaged at this byte.
+    //= No body: it is of `link_of` and of the index of numbers
     ensures ends { LinkEnds num.now host (this_sink K.taken K.faults sink.old sink.new)
         (this_disk D.tells D.on_disk D.faults disk result.1) result.0.detail }
     ensures same { D.on_disk result.1 ≡ D.on_disk disk }

@@ -21,6 +21,8 @@ pub fn list_cmd<K: Sink, D: Disk>(
     disk: D,
 ) -> (Ended, D)
     ensures status { result.0.status ≡ status_of result.0.detail }
+    //= `list` prints the listing of the chosen records of the history that the file stands for, the empty one where
+    //= it isn't begun, and its chain line.
     ensures ends { ListEnds choice (this_sink K.taken K.faults sink.old sink.new)
         (this_disk D.tells D.on_disk D.faults disk result.1) result.0.detail }
     ensures same { D.on_disk result.1 ≡ D.on_disk disk }

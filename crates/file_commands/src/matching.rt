@@ -30,6 +30,8 @@ pub fn matches_cmd<S: Source, K: Sink, D: Disk>(
     disk: D,
 ) -> (Ended, D)
     ensures status { result.0.status ≡ status_of result.0.detail }
+    //= With 0 `matches` read as many lines as the export has objects, and each line as the object of its place;
+    //= with 18 the line named is the first that differs, is missing or is one too many.
     ensures ends { MatchesEnds (this_source S.left S.faults source.old source.new)
         (this_sink K.taken K.faults sink.old sink.new)
         (this_disk D.tells D.on_disk D.faults disk result.1) result.0.detail }

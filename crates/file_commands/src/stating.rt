@@ -25,6 +25,8 @@ pub fn statement_cmd<K: Sink, D: Disk>(
     disk: D,
 ) -> (Ended, D)
     ensures status { result.0.status ≡ status_of result.0.detail }
+    //= `statement` prints the text of the statement of this period of the history that the file stands for, the empty
+    //= one where it isn't begun.
     ensures ends { StatementEnds period (this_sink K.taken K.faults sink.old sink.new)
         (this_disk D.tells D.on_disk D.faults disk result.1) result.0.detail }
     ensures same { D.on_disk result.1 ≡ D.on_disk disk }

@@ -24,9 +24,16 @@ pub record SendsBehind (kind : AgencyKind) (exact drains : Bool) (opened after :
     (beside answer : Result (Unit {0}) DrainFault) : Type 0 where
   pub says : IsTrue kind.tells → SaysCalls opened.ledger.messages met.agency_state.ledger.messages
   pub later : opened.faults ≤ met.agency_state.faults
+  --= The turns beside the tills gave up on no fault of the link.
+  --= No body: it is of `sender_session/send_until.never`
   pub never : IsUndelivered beside → ⊥
+  --= A fault that ended the turns beside the tills is the answer, and nothing more was done.
+  --= No body: it is of `sender_beside/drain_rest.failed`
   pub failed : OnErr beside ((answer ≡ beside) × (left ≡ met))
+  --= Unless a fault had ended the sender, one drain led from the tills' end to the end, and nothing comes after its
+  --= eighth fault of the link.
   pub drains_to : drains ≡ true → OnOk beside (DrainsTo kind exact met left answer)
+  --= Where no drain follows, not a turn, a message or a rest was made after the tills.
   pub ends : drains ≡ false → (answer ≡ beside) × (left ≡ met)
   pub agency_state : left.agency_state ≡ after
 

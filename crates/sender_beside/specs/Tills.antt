@@ -49,6 +49,10 @@ IsSomeReading coming seconds = (number : ℕ) × IsTold (coming number) seconds
 pub data ServedRun (version : Version) (issuer : List ℕ) (coming : ℕ → Option ℕ) (start end : List Entry) :
     List Asked → Replies → ℕ → Bool → Type 0 where
   unasked : ServedRun version issuer coming start end [] [] (length start) false
+  --= Each reply to a till is the answer at a beginning of the history at the end and at a coming reading of the
+  --= clock; no beginning is shorter than all that the till had seen, and a record told as taken is the next entry
+  --= there.
+  --= No body: it is of `till_calls/Shop::ask.asks`
   answered : (asks : List Asked) (replies : Replies) (seen : ℕ) (ask : Asked) (reply : Reply) (history gained : List Entry)
       (seconds : ℕ) → ServedRun version issuer coming start end asks replies seen false → seen ≤ length history →
       IsPrefix (history ++ gained) end → IsSomeReading coming seconds →
@@ -92,9 +96,16 @@ stops_in (Some stop) = 1
 pub record TillServed (d : Day) (t : TillReplies) : Type 0 where
   pub last : ℕ
   pub told : Bool
+  --= Each till has a till run of its own commands, in line order.
   pub run : ServedRun d.version d.issuer d.coming d.start d.end (asks_of t.till d.asks) t.replies last told
+  --= Each till's records since the start are exactly those that it was told as taken, in order.
+  --= No body: it is of a law of `till_calls`, which has no body
   pub own : AreTaken t.replies (own_of t.till (drop (length d.start) d.end))
+  --= At its end each till saw no less than at its last answer.
+  --= No body: it is of `till_calls/Shop::count_now.at_least`
   pub at_least : last ≤ t.saw
+  --= Each till saw no more than the history at the end, and the stop after it.
+  --= No body: it is of `till_calls/Shop::count_now.at_least`
   pub at_most : t.saw ≤ length d.end + stops_in d.stop
 
 -- a stop is told by this count
@@ -130,19 +141,28 @@ SenderFails d = FailsAtNotes d.kind d.opened d.after d.answer
 -- Who recorded a day's stop over an entry: a till at its answer to one of its asks, the only one of all that is answered with a
 -- fault of the disk; or the sender at its notes, and then no ask is.
 pub data RecordedBy (d : Day) (torn : Entry) : Type 0 where
+  --= A stop over a record is over the one that the answer made, at the history at the end and a coming reading, of
+  --= the only ask of all tills that is answered with the disk's fault.
+  --= No body: it is of `till_calls/Shop::ask.asks`, and of laws, which have no body
   till : (t : TillReplies) → Contains d.tills t →
       IsCutOffBy d.version d.issuer d.coming d.end (asks_of t.till d.asks) t.replies torn →
       own_faults d ≡ 1 → RecordedBy d torn
+  --= A stop over notes is one that the sender's own note met; no ask is answered with that fault then.
+  --= No body: it is of `turn` and of `Store::note`: `sender/Turned.deals`
   sender : AreNotesEntry torn → SenderFails d → own_faults d ≡ 0 → RecordedBy d torn
 
 -- The shop has stopped, the disk's count of faults having risen to the stop's. Each till that is told of it is told this count.
 pub record IsStop (d : Day) (faults faults_after : ℕ) (stop : Stop) : Type 0 where
   pub by : RecordedBy d stop.torn
+  --= Each till that is told of the stop is told its one count, to which the disk's count rose.
+  --= No body: it is of `till_calls/Shop::ask.asks`, and of laws, which have no body
   pub told : AllByRecursion (TellsStop stop.count) (all_replies d.tills)
   pub risen : Rose faults stop.count
   pub within : stop.count ≤ faults_after
 
 -- Nobody was told that the disk failed, or the shop has stopped; the disk's counts of faults are those before the day and after.
+--= A shop stopped exactly where a till was told of a fault of the disk or of the stop, or the sender met one.
+--= No body: it is of `Shop::close`, which finds the stop
 abbrev pub StopIs : Day → ℕ → ℕ → Option Stop → Type 0
 StopIs d faults faults_after None = AllGoOn (all_replies d.tills) × (IsDiskAnswer d.answer → ⊥)
 StopIs d faults faults_after (Some stop) = IsStop d faults faults_after stop
@@ -152,8 +172,11 @@ StopIs d faults faults_after (Some stop) = IsStop d faults faults_after stop
 pub record DayRun {D C : Type 0} (h : StoreKind D C) (root : Root C) (new : Parts D C) (d : Day) : Type 0 where
   pub sound : IsSound h.tells h.on_disk h.faults h.coming root new
   pub served : AllByRecursion (TillServed d) d.tills
+  --= No till that isn't of the day has a record since the start.
+  --= No body: it is of a law of `till_calls`, which has no body
   pub others : (till : ℕ) → AllByRecursion (λ (t : TillReplies). t.till ≢ till) d.tills →
       own_of till (drop (length d.start) d.end) ≡ []
   pub stop : StopIs d root.faults (h.faults new.disk) d.stop
   pub sends : SendsBeside d
+  --= Where the drain is done each record of the history at the end has its line.
   pub all_noted : d.drains ≡ true → OnOk d.answer (length (noted d.end) ≡ length (recs d.end))

@@ -128,15 +128,20 @@ where
     F: FnMut(),
     requires work { F.pre work.old }
     requires seat { seat_shop seat ≡ shop_id shop.now }
+    //= The tills do their work in this thread, while the sender has another.
     ensures work { F.step work.old tt work.new }
     ensures mark { mark_by (seat_shop result.seat) (seat_knows result.seat) ≡ mark_by (seat_shop seat) (seat_knows seat) }
+    //= While the tills work a new sender leaves of shop and agency what turns of one sender leave.
+    //= No body: it is of `sender_session/send_until.sends`
     ensures sends { SendsOn (agency_kind G.Agency) (sight_by (seat_knows seat)) (sight_by (seat_knows result.seat))
         (agency_state_of G.Agency agency) (agency_state_of G.Agency result.agency) fresh result.sender result.answer }
 
-    // Each turn is a step, over the records of its own look, at a second of the sleeper.
+    //= Each turn while the tills work is a step, over the records of its own look, at a second of the sleeper.
     ensures steps { StepsBeside (agency_kind G.Agency) Z.tells
         (scene_of (agency_state_of G.Agency agency) (sight_by (seat_knows seat)) fresh (Z.moment sleeper))
         (scene_in (agency_state_of G.Agency) Z.moment result) result.answer }
+    //= However often the link fails, the sender doesn't give up while the tills work.
+    //= No body: it is of `sender_session/send_until.never`
     ensures never { IsUndelivered result.answer → ⊥ }
 {
     let (sent, work) = run_beside(means, shop, seat, agency, sleeper, stop, Lent { work });

@@ -80,15 +80,21 @@ pub fn drain_rest<D: Disk, C: Clock, G: Agency + Drop, Z: Sleeper + Drop, T, R: 
     requires own { seat_shop sent.seat ≡ shop_id shop.now }
     ensures mark { mark_by (seat_shop result.seat) (seat_knows result.seat)
         ≡ mark_by (seat_shop sent.seat) (seat_knows sent.seat) }
+    //= What the drain after the tills leaves joins what the same sender left before.
     ensures sends { (before : Sight) (old : AgencyState) (sending : Sending) →
         SendsOn (agency_kind G.Agency) before (sight_by (seat_knows sent.seat)) old (agency_state_of G.Agency sent.agency) sending
         sent.sender sent.answer →
         SendsOn (agency_kind G.Agency) before (sight_by (seat_knows result.seat)) old (agency_state_of G.Agency result.agency)
         sending result.sender result.answer }
+    //= The drain after the tills gives up exactly at its eighth turn that is answered with a fault of the link;
+    //= those met while the tills ran don't count.
     ensures turns { OnOk sent.answer (DrainsTo (agency_kind G.Agency) Z.tells
         (scene_in (agency_state_of G.Agency) Z.moment sent) (scene_in (agency_state_of G.Agency) Z.moment result) result.answer) }
+    //= Where a fault had ended the sender while the tills ran, it does nothing after them.
     ensures failed { OnErr sent.answer (result ≡ sent) }
+    //= A drain that is done has seen all that the sender's seat was told of.
     ensures covers { OnOk result.answer ((seat_knows sent.seat).least ≤ length (seat_knows result.seat).seen) }
+    //= A drain that is done has noted a line for each record that it has seen.
     ensures delivered { OnOk result.answer (length (noted (history_of (sight_by (seat_knows result.seat))))
         ≡ length (recs (history_of (sight_by (seat_knows result.seat))))) }
     ensures no_rest { Z.without_rest sent.sleeper result.sleeper }
@@ -141,6 +147,7 @@ pub fn drain_if<D: Disk, C: Clock, G: Agency + Drop, Z: Sleeper + Drop, T, R: Wa
     ensures turns { drains ≡ true → OnOk sent.answer (DrainsTo (agency_kind G.Agency) Z.tells
         (scene_in (agency_state_of G.Agency) Z.moment sent) (scene_in (agency_state_of G.Agency) Z.moment result) result.answer) }
     ensures failed { OnErr sent.answer (result ≡ sent) }
+    //= Where no drain is to follow the tills, nothing more is done.
     ensures ends { drains ≡ false → result ≡ sent }
     ensures covers { drains ≡ true → OnOk result.answer ((seat_knows sent.seat).least ≤ length (seat_knows result.seat).seen) }
     ensures delivered { drains ≡ true → OnOk result.answer (length (noted (history_of (sight_by (seat_knows result.seat))))

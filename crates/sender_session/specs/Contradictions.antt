@@ -21,6 +21,9 @@ pub record ShowsLast (entries : List Entry) (past messages : List Message) (evid
   pub seen : List Seen
   pub is : messages ≡ (past ++ before) ++ Consulted named (Ok seen) ∷ []
   pub asked : IsPrefix named.huellas (huellas_of (waiting entries))
+  --= A contradiction is a hole, or a record forgotten of which the last reply that named its batch said something,
+  --= where no consultation has answered since.
+  --= No body: a definition, cited by `turn`: `sender/Turned.deals`
   pub shows : Shows (kept_reply before) (length (noted entries) + 1) named.huellas seen (Err evidence)
 
 -- it shows none, whatever the history

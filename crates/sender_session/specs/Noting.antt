@@ -61,6 +61,9 @@ count_named (Consulted asked answer) = length asked.huellas
 
 -- each message is of the first records that wait, and says a line for no more of them than it names: this many lines are noted
 -- before the first message, and after each one those that it says
+--= Each message hands over or asks for the first records that wait once the lines of those before it are noted, and
+--= says a line for no more of them than it names.
+--= No body: it is of `turn`: `sender/Turned.deals`
 abbrev pub AreOfWaiting : List Sealed → ℕ → List Message → Type 0
 AreOfWaiting records count [] = ⊤
 AreOfWaiting records count (m ∷ messages) = IsOfFirst (drop count records) m × (length (lines_said m) ≤ count_named m)
@@ -75,6 +78,9 @@ pub record MissesLast (before after : List Line) (messages : List Message) : Typ
 
 -- The lines that were noted, by how the sending ended: those that the messages say, in order, and no others. The last message's
 -- aren't where it shows a contradiction or the store failed, and need not be where memory ran out.
+--= The lines noted are those that the messages say, in order and no others: all of them but those of a last one
+--= that shows a contradiction or at which the store failed; without memory those of the last may be lacking.
+--= No body: it is of `turn` and of `Store::note`: `sender/Turned.deals`
 abbrev pub AreNoted : List Line → List Line → List Message → Result (Unit {0}) DrainFault → Type 0
 AreNoted before after messages (Ok done) = after ≡ before ++ all_said messages
 AreNoted before after messages (Err (drain.Undelivered noted_count records_count)) = after ≡ before ++ all_said messages
@@ -95,6 +101,8 @@ pub record TornSaid (after : List Entry) (messages : List Message) (torn : Entry
   pub front : List Message
   pub last : Message
   pub is : messages ≡ front ++ last ∷ []
+  --= Notes that are torn are the lines that the last message says, as the next ones.
+  --= No body: it is of `turn` and of `Store::note`: `sender/Turned.deals`
   pub torn_is : torn ≡ Notes (length (noted after)) (lines_said last)
 
 -- the lines that were noted are those that the messages since say, in their order, or the first of them

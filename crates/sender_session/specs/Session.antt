@@ -129,6 +129,9 @@ pub record AddsOwnNotes (kind : AgencyKind) (before after : Sight) (old new : Ag
   pub adds : Adds AreNotesOrTorn before after
   pub notes : Adds AreNotes before after ⊎ FailsAtNotes kind old new answer
   pub stopped : IsDiskAnswer answer → EndsStopped after.items
+  --= Where an agency that keeps its rules agreed with the shop, and no notes but the sender's own came, the two
+  --= still agree.
+  --= No body: it is of `turn`, whose clauses keep the agreement
   pub session : IsTrue kind.keeps_rules → InSession before old.ledger sending.said → GainsOwnNotes before after →
       KeepsSession before after old.ledger new.ledger sending_then.said
   pub no_contradiction : IsTrue kind.keeps_rules → InSession before old.ledger sending.said → GainsOwnNotes before after →
@@ -139,7 +142,9 @@ pub record AddsOwnNotes (kind : AgencyKind) (before after : Sight) (old new : Ag
 -- What turns of one sender say to an agency that tells its messages, and what is noted and answered by these.
 pub record SaysByTurns (kind : AgencyKind) (before after : Sight) (old new : AgencyState) (sending sending_then : Sending)
     (answer : Result (Unit {0}) DrainFault) : Type 0 where
-  -- no record is handed over blindly
+  --= With an agency that tells its messages, and where it was so before, no record is handed over again unless a
+  --= consultation since its last submission has answered `NotSeen` for it.
+  --= No body: it is of `turn`: `sender/RepeatsNothingBlindly.careful`
   pub careful : IsTrue kind.tells → (past : List Message) → IsCareful past before old.ledger.messages sending →
       IsCareful past after new.ledger.messages sending_then
   -- submissions and consultations alone were said
@@ -147,10 +152,12 @@ pub record SaysByTurns (kind : AgencyKind) (before after : Sight) (old new : Age
   -- the sender keeps the last reply of its session that named its batch, until a consultation answers
   pub kept : IsTrue kind.tells → (past : List Message) → KeepsReply past old.ledger.messages sending.said →
       KeepsReply past new.ledger.messages sending_then.said
-  -- a contradiction is answered only where the last message shows it, and wherever it does but for lack of memory
+  --= A contradiction is answered only where the last message is a consultation that shows it.
+  --= No body: it is of `turn`: `sender/Turned.deals`
   pub contrary : IsTrue kind.tells → (past : List Message) → KeepsReply past old.ledger.messages sending.said →
       (evidence : Evidence) → IsErrOf answer (drain.Contradiction evidence) →
       ShowsLast (history_of after) past new.ledger.messages evidence
+  --= A contradiction is answered wherever the last message shows one, or memory ran out.
   pub shown : IsTrue kind.tells → (past : List Message) → KeepsReply past old.ledger.messages sending.said →
       ShowsNothing past old.ledger.messages → AnswersWhatIsShown past new.ledger.messages answer
   -- and none before it does

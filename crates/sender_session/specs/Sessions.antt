@@ -34,6 +34,8 @@ abbrev pub steps_in : List Stepped → List Step
 steps_in steps = map (λ (s : Stepped). s.step) steps
 
 -- a wait leaves the second until which it was, where that is later; beside tills it may end before, and leave the moment as it was
+--= While tills run a wait may end before its second.
+--= No body: a definition, which allows more
 abbrev pub IsMomentAfter : Bool → ℕ → Step → ℕ → Type 0
 IsMomentAfter beside moment (Waits at) then = (then ≡ max moment at) ⊎ ((beside ≡ true) × (then ≡ moment))
 IsMomentAfter beside moment _ then = then ≡ moment
@@ -51,6 +53,9 @@ after_all st (s ∷ steps) = after_all (after_stepped st s) steps
 
 -- One after another, from one history and standing to another history, each over the records of its own look. The histories go on
 -- from each other, and nothing is noted in them but what these steps noted.
+--= The histories at which a session's steps look go on from each other, and nothing is noted in them but what the
+--= steps noted.
+--= No body: it is of `turn`, and of the seat that adds nothing else
 abbrev pub AreStepped : Bool → Bool → List Entry → Standing → List Stepped → List Entry → Type 0
 AreStepped exact beside history st [] end = IsPrefix history end × (length (noted end) ≡ st.noted)
 AreStepped exact beside history st (s ∷ steps) end =
@@ -120,6 +125,9 @@ StepsBeside kind exact before after answer = (st : Standing) → StandsAt exact 
 -- the steps of a drain, from a standing to a history, as `Steps` has them: fewer than eight link lines where it goes on
 pub record EndsAsDrain {exact : Bool} {history : List Entry} {st : Standing} {end : List Entry}
     (part : Part exact false history st end) (answer : Result (Unit {0}) DrainFault) : Type 0 where
+  --= The link may fail however often while tills run; after them the steps end as a drain's do, at the eighth link
+  --= line.
+  --= No body: it is of `sender_beside/drain_rest.turns`
   pub few : links_in part.going < MAX_LINK_FAULTS
   pub ends : EndsBy (recs end) (after_all st part.going) (links_in part.going) (length (noted end)) (steps_in part.last) answer
 
@@ -129,6 +137,8 @@ is_answered (Consulted asked (Ok seen)) = true
 is_answered _ = false
 
 -- each submission among these messages has such a one before it
+--= A consultation that was answered comes ahead of the first submission of a session.
+--= No body: it is of a new sender, which begins in doubt: `sender/Sender::new`
 abbrev pub AsksFirst : List Message → Type 0
 AsksFirst messages = (front back : List Message) (batch : List Sealed) (answer : Result Replied AgencyFault) →
     messages ≡ front ++ Submitted batch answer ∷ back → list_any is_answered front ≡ true

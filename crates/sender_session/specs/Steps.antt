@@ -97,6 +97,8 @@ noted_in (told.Noted n) = n
 noted_in _ = 0
 
 -- noted lines end the doubt, and so does the answer that the agency has seen none of the records
+--= Only noted lines, or the answer that none of the waiting records was seen, end a sender's doubt.
+--= No body: a definition, cited by `turn`: `sender/Turned.deals`
 abbrev pub doubt_behind : Bool → Told → Bool
 doubt_behind doubt (told.Noted n) = false
 doubt_behind doubt told.Cleared = false
@@ -152,6 +154,9 @@ IsReplyLine st batch reply (told.Stopped faults) = AreAllNew batch reply
 IsReplyLine st batch reply told.Memory = Names reply batch
 IsReplyLine _ _ _ _ = ⊥
 
+--= A submission's line is `link` for no reply or one to another batch, `doubt` with the place of the first
+--= `Duplicado`, `noted` with the length of its batch, or the fault of the store.
+--= No body: it is of `turn`: `sender/Turned.deals`
 abbrev pub IsSubmissionLine : Standing → List Sealed → Result Replied AgencyFault → Told → Type 0
 IsSubmissionLine st batch (Ok reply) printed = IsReplyLine st batch reply printed
 IsSubmissionLine st batch (Err agency.Failed) printed = printed ≡ told.Link
@@ -178,6 +183,9 @@ IsSeenLine st huellas seen (told.Stopped faults) = ShowsLines st huellas seen
 IsSeenLine st huellas seen told.Memory = ⊤
 IsSeenLine _ _ _ _ = ⊥
 
+--= A consultation's line is `link` for no answer, `cleared` where none of the records was seen, `noted` with the
+--= number of lines in front, `contradiction`, or the fault of the store.
+--= No body: it is of `turn`: `sender/Turned.deals`
 abbrev pub IsConsultationLine : Standing → List (List ℕ) → Result (List Seen) AgencyFault → Told → Type 0
 IsConsultationLine st huellas (Ok seen) printed = IsSeenLine st huellas seen printed
 IsConsultationLine st huellas (Err agency.Failed) printed = printed ≡ told.Link
@@ -186,6 +194,9 @@ IsConsultationLine st huellas (Err agency.NoMemory) printed = printed ≡ told.M
 -- One step at this standing. In doubt the first waiting records are asked for, each by its Huella and its id; only out of doubt are they handed over, or is
 -- there a wait. And where the sleeper tells its moment, a submission is made only where one is due, and a wait only where none
 -- is, until the second when it will be.
+--= In doubt a step asks for the first waiting records, at most 1000, by Huella and by id; only out of doubt does it
+--= hand them over, or wait. Over a sleeper that tells its moment it hands over only where that is due, and waits
+--= only where it isn't, until the second when it will be.
 abbrev pub IsStep : Bool → List Sealed → Standing → Step → Type 0
 IsStep exact records st (Waits at) = (st.doubt ≡ false) × (st.noted < length records)
     × (IsTrue exact → (is_due st.pace st.moment (count_waiting records st) ≡ false) × (at ≡ due_at st.pace))
@@ -240,6 +251,8 @@ EndsBy records st links noted last (Err (drain.Store (store.Stopped faults))) = 
 EndsBy _ _ _ _ _ _ = ⊤
 
 -- the lines of these steps were told; without memory the last may be untold
+--= Each step has its line in the text; without memory the last may be untold.
+--= No body: it is of `sender/Sender::drain.drained`
 abbrev pub AreTold : List Told → List Step → List Step → Result (Unit {0}) DrainFault → Type 0
 AreTold turns going last answer = (turns ≡ map line_in (going ++ last))
     ⊎ ((answer ≡ Err drain.NoMemory) × (turns ≡ map line_in going))
@@ -254,12 +267,19 @@ pub record Steps (tells exact : Bool) (records : List Sealed) (from to moment : 
   pub are : AreSteps exact records (at_start from moment) (going ++ last)
   pub go_on : AllByRecursion (λ (s : Step). GoesOnBehind (line_in s)) going
   pub told : AreTold turns going last answer
-  -- the agency was told these messages, and nothing else
+  --= A drain told the agency the messages of its steps, and nothing else, where the agency tells them.
+  --= No body: it is of `sender/Sender::drain.drained`
   pub messages : IsTrue tells →
       new.ledger.messages ≡ old.ledger.messages ++ filter_map message_in (going ++ last)
-  -- the numbers of the lines add up to what was noted
+  --= The numbers of a drain's lines add up to what was noted.
+  --= No body: it is of `sender/Sender::drain.drained`
   pub noted : to ≡ (after_steps (at_start from moment) (going ++ last)).noted
   -- no more link lines than the agency's faults, and fewer than eight where it goes on
   pub few : count_by is_link (map line_in going) < MAX_LINK_FAULTS
+  --= A drain has no more `link` lines than the agency's count of faults rose by, unless that stands at its end.
+  --= No body: it is of `sender/Sender::drain.drained`
   pub links : new.faults < greatest_u64 → count_by is_link (map line_in (going ++ last)) + old.faults ≤ new.faults
+  --= A drain is done only where each record has its line; it gives up exactly at its eighth `link` line, and
+  --= answers a contradiction exactly where the last message shows it, out of memory aside.
+  --= No body: it is of `sender/Sender::drain.drained`
   pub ends : EndsBy records (after_steps (at_start from moment) going) (count_by is_link (map line_in going)) to last answer

@@ -97,15 +97,17 @@ pub fn send_until<R: Wait, T: Gate, O: Outbox, G: Agency, Z: Sleeper>(
     stop: &AtomicBool,
 ) -> Result<(), DrainFault>
     ensures fixed { O.fixed outbox.new ≡ O.fixed outbox.old }
+    //= Whatever others add to the shop meanwhile, it gains from its sender no notes but the lines that the messages
+    //= say, nothing is handed over again blindly, and where an agency that keeps its rules agreed it still does.
     ensures sends { SendsOn (agency_kind G.Agency) (O.sight outbox.old) (O.sight outbox.new)
         (agency_state_of G.Agency agency.old) (agency_state_of G.Agency agency.new) sender.old sender.new result }
 
-    // Each turn is a step, over the records of its own look, at a second of the sleeper.
+    //= Each turn of a sender beside tills is a step, over the records of its own look, at a second of the sleeper.
     ensures steps { StepsBeside (agency_kind G.Agency) Z.tells
         (scene_of (agency_state_of G.Agency agency.old) (O.sight outbox.old) sender.old (Z.moment sleeper.old))
         (scene_of (agency_state_of G.Agency agency.new) (O.sight outbox.new) sender.new (Z.moment sleeper.new)) result }
 
-    // However often the link fails, it doesn't give up.
+    //= However often the link fails, a sender beside tills doesn't give up.
     ensures never { IsUndelivered result → ⊥ }
 {
     for _ in means.rt.forever() {

@@ -34,6 +34,8 @@ StoreEnds asks s sink end =
 pub record ChainRan {D C : Type 0} (issuer : List ℕ) (d : Devices D C) (script : Script) (end : Detail) : Type 0 where
   pub ends : ScriptEnds issuer script.asks (readings_of script.clock (d.clock.coming d.clock.clock))
       (LeavesClock d.clock script.clock) d.sink d.disk end
+  --= `chain` ends with 6 only where the disk's count of faults rose: in opening, or at a command.
+  --= No body: it is of `open` and of `Store::take`
   pub risen : end ≡ detail.DiskFault → DiskRose d.disk
 
 -- what `chain` did, and how it ended

@@ -51,6 +51,8 @@ abbrev pub till_lines : List Asked → TillReplies → List AnswerLine
 till_lines asks t = answers (asks_of t.till asks) t.replies ++ Saw t.till t.saw ∷ []
 
 -- what is printed of a day: the lines of each till, then the listing and the chain line
+--= The text of a day is each till's answers and its count, then the listing and the chain line.
+--= No body: a definition, which the texts of `report` meet
 abbrev pub day_text : List Asked → List TillReplies → List Entry → List ℕ
 day_text asks tills entries = answers_text (flat_map (till_lines asks) tills) ++ listing_text entries
 
@@ -88,6 +90,9 @@ day_of issuer script line c o = day_with issuer script.asks line true c o
 
 -- the history: it goes on from the one at the start, and is legal
 pub record HistoryGoesOn (d : Day) : Type 0 where
+  --= The history at the end of a day begins with the one that the file stood for, and is legal and linked; the
+  --= serials of each till rise.
+  --= No body: it is of `till_calls/Shop::close.sound`
   pub begins : IsPrefix d.start d.end
   pub legal : Legal d.version d.issuer d.end
   pub linked : Linked d.issuer (recs d.end)
@@ -98,6 +103,8 @@ pub record HistoryGoesOn (d : Day) : Type 0 where
 pub record EachTillOf (numbers : List ℕ) (d : Day) : Type 0 where
   pub are : map (λ (t : TillReplies). t.till) d.tills ≡ numbers
   pub served : AllByRecursion (TillServed d) d.tills
+  --= A till that asked for nothing in a day has no record since its start.
+  --= No body: it is of a law of `till_calls`, which has no body
   pub others : (till : ℕ) → has_asks d.asks till ≡ false → own_of till (drop (length d.start) d.end) ≡ []
 
 -- the tills are those that ask for anything
@@ -109,6 +116,9 @@ EachTill d = EachTillOf (tills_of d.asks) d
 pub record EachCrash {D : Type 0} (d : Day) (k : Disks D) : Type 0 where
   pub found : IsTrue k.tells → IsFound d.version d.issuer d.start (k.on_disk k.disk).content
   pub stop : StopIs d (k.faults k.disk) (k.faults k.disk_after) d.stop
+  --= Each crash since the sync at a day's opening leaves a front of the history, or of it and the entry of the
+  --= stop; after the day the whole history, or that and this entry.
+  --= No body: it is of `till_calls/Shop::close.sound`
   pub kept : IsTrue k.tells →
       SurvivesCrashes (StandsSince (k.on_disk k.disk).content d.version d.issuer d.start d.end (torn_of d.stop)) d.version d.issuer d.end
       (torn_of d.stop) (synced (k.on_disk k.disk)) (k.on_disk k.disk_after)
@@ -117,10 +127,14 @@ pub record EachCrash {D : Type 0} (d : Day) (k : Disks D) : Type 0 where
 -- sent, while the tills ran and, where a drain follows, in one drain after them. Where shop and agency agreed they still do, also with
 -- the history of each file that a crash now leaves.
 pub record ItsAgency {D G : Type 0} (d : Day) (plan : Plan) (a : Agencies G) (k : Disks D) : Type 0 where
+  --= A day and a dialogue open one session, with the plan and the pairs that the file notes.
+  --= No body: it is of `shop_drain/begin.session`
   pub opens : OpensSession d.kind a.begun plan d.start a.before d.opened
   pub sends : SendsBeside d
   pub behind : DrainsBehind d.kind d.drains d.opened d.after d.answer
   pub agreement : IsTrue d.kind.keeps_rules → AgreesAtStart a d.start → StaysAgreed d
+  --= Where the agency agrees after a day, so does the history of each file that a crash now leaves.
+  --= No body: it is of `Store::note` and of `turn`
   pub images : IsTrue k.tells → StaysAgreed d → LeavesNow (k.on_disk k.disk_after) (AgreesInFile d.version d.issuer d.after)
 
 -- its session by its steps, at the moment of the sleeper that is given, or of the one that a clock line makes
@@ -129,13 +143,17 @@ StepsOf d line z = SessionSteps d.kind.tells (tells_moment line z) d.drains (fir
 
 -- what an end tells of the sender, whose agency was in this state before the call
 pub record TellsOfSender (d : Day) (before : AgencyState) (end : Detail) : Type 0 where
-  -- it is undelivered only where lines are missing and the agency failed eight times
+  --= A day or a dialogue ends with 8 only where lines are missing and the agency failed eight times in the call.
+  --= No body: it is of `sender_beside/drain_rest.turns`
   pub undelivered : (noted_count records_count : ℕ) → end ≡ detail.Undelivered noted_count records_count →
       (noted_count < records_count) × (d.after.faults < greatest_u64 → before.faults + MAX_LINK_FAULTS ≤ d.after.faults)
-  -- where the agency tells its messages it is a contradiction exactly where this call's last one is a consultation that shows it,
-  -- unless memory ran out or the disk failed
+  --= With an agency that tells its messages a day or a dialogue ends with 11 only where the last message is a
+  --= consultation that shows this contradiction.
+  --= No body: it is of `sender_session/SaysByTurns.shown`
   pub contrary : IsTrue d.kind.tells → (evidence : Evidence) → end ≡ detail.Contradiction evidence →
       ShowsLast d.end d.opened.ledger.messages d.after.ledger.messages evidence
+  --= Where the last message of a day or a dialogue shows a contradiction, the end is 11, 10 or 6.
+  --= No body: it is of `sender_session/SaysByTurns.shown`
   pub shown : IsTrue d.kind.tells → (evidence : Evidence) →
       ShowsLast d.end d.opened.ledger.messages d.after.ledger.messages evidence →
       (end ≡ detail.Contradiction evidence) ⊎ (end ≡ detail.NoMemory) ⊎ (end ≡ detail.DiskFault)
@@ -145,7 +163,8 @@ pub record EndsAsServed {D C Z G : Type 0} (d : Day) (c : Around D C Z G) (end :
   pub cause : DayRunEnds (all_replies d.tills) d.answer (length (noted d.end)) (length (recs d.end)) (day_text d.asks d.tills d.end)
       c.sink end
   pub sender : TellsOfSender d c.agency.before end
-  -- where no device fails and the agency keeps its rules and agrees, it is done, or memory ran out
+  --= Where no device fails, and the agency keeps its rules and agrees, a day ends with 0 or out of memory.
+  --= No body: it is of all that the command calls
   pub complete : NothingRose c.sink c.disk c.agency → IsTrue d.kind.keeps_rules → AgreesAtStart c.agency d.start →
       (end ≡ detail.Done) ⊎ (end ≡ detail.NoMemory)
 
@@ -168,6 +187,9 @@ pub record NotServed {D C Z G : Type 0} (issuer : List ℕ) (plan : Plan) (c : A
   pub version : Version
   pub start : List Entry
   pub found : IsTrue c.disk.tells → IsFound version issuer start (c.disk.on_disk c.disk.disk).content
+  --= Where memory for the day runs out once the file is open, nothing is asked, printed or handed over, and each
+  --= crash leaves the history found.
+  --= No body: it is of `open` and `close`
   pub kept : IsTrue c.disk.tells →
       SurvivesCrashes (StandsSince (c.disk.on_disk c.disk.disk).content version issuer start start []) version issuer start []
       (synced (c.disk.on_disk c.disk.disk)) (c.disk.on_disk c.disk.disk_after)

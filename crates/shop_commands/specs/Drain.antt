@@ -66,13 +66,16 @@ pub record FileDrained {D G : Type 0} (issuer : List ℕ) (plan : Plan) (exact :
   -- what was said, noted and kept
   pub drains : StoreDrains (StandsSince (k.on_disk k.disk).content version issuer) a.begun plan version issuer (file_span k)
       (spanning start a.kind a.before a.after exact moment outcome)
-  -- the text, and the end by the answer and the sink
+  --= The text of a drain is a line for each turn and the chain line, and its status is by its answer and the sink.
+  --= No body: it is of `end_by`
   pub ends : DrainRunEnds outcome.answer (drain_text outcome.turns outcome.end) s end
-  -- it is undelivered only where lines are missing and the agency failed eight times
+  --= A drain ends with 8 only where lines are missing and the agency failed eight times.
+  --= No body: it is of `Sender::drain`, whose clause `ends` says when it gives up
   pub undelivered : (noted_count records_count : ℕ) → end ≡ detail.Undelivered noted_count records_count →
       (noted_count < records_count) × (a.after.faults < greatest_u64 →
       a.before.faults + MAX_LINK_FAULTS ≤ a.after.faults)
-  -- where no device fails and the agency keeps its rules and agrees, it is done, or memory ran out
+  --= Where no device fails, and the agency keeps its rules and agrees, a drain ends with 0 or out of memory.
+  --= No body: it is of all that the command calls
   pub complete : NothingRose s k a → IsTrue a.kind.keeps_rules → AgreesAtStart a start →
       (end ≡ detail.Done) ⊎ (end ≡ detail.NoMemory)
 
@@ -80,6 +83,8 @@ pub record FileDrained {D G : Type 0} (issuer : List ℕ) (plan : Plan) (exact :
 pub record AllLeft {C Z G : Type 0} (t : Clocks C) (z : Sleepers Z) (a : Agencies G) : Type 0 where
   pub clock : LeftClock t
   pub sleeper : LeftSleeper z
+  --= Where the script is bad or the file wasn't opened, clock, sleeper and agency are as they were.
+  --= No body: they are handed back as they came
   pub agency : LeftAgency a
 
 -- the file couldn't be opened; or it was drained, by a sleeper that has this moment at the start, where it tells it
@@ -90,6 +95,7 @@ pub record FileDrainEnds {D C Z G : Type 0} (issuer : List ℕ) (plan : Plan) (s
   pub clock : IsLater t.coming t.clock t.clock_after
 
 -- a clock line replaces clock and sleeper; without one the clock is asked for no more than some readings
+--= A clock line replaces clock and sleeper, and both come back as they were.
 abbrev pub LeavesTime : {C Z : Type 0} → Option (ℕ × ℕ) → Clocks C → Sleepers Z → Type 0
 LeavesTime None t z = IsLater t.coming t.clock t.clock_after
 LeavesTime (Some line) t z = LeftClock t × LeftSleeper z

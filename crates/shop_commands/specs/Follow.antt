@@ -60,9 +60,13 @@ pub record HasFollowed {D : Type 0} (file new : Disks D) (kept entries : ℕ) : 
   pub stands : IsTrue file.tells → StandsFor version issuer history (file.on_disk file.disk).content
   pub found : IsTrue new.tells → IsFound version version issuer copy (new.on_disk new.disk).content
   pub front : IsPrefix copy history
+  --= After 0 of `follow` the copy has as many entries more as it was given, and so as many as the file.
+  --= No body: it is of `catch_up`
   pub kept_is : length copy + kept ≡ length history
   pub entries_are : entries ≡ length history
   pub reads : IsTrue new.tells → StandsFor version issuer history (new.on_disk new.disk_after).content
+  --= After 0 of `follow` each crash from now on leaves a copy with the file's whole history.
+  --= No body: it is of `catch_up`, over `standby/Standby::arrive.arrives`
   pub every_crash : IsTrue new.tells → LeavesNow (new.on_disk new.disk_after) (StandsFor version issuer history)
 
 -- a file without an entry: it isn't begun, or it stands for an empty history
@@ -71,6 +75,9 @@ HasNoEntry file = IsNotBegun file ⊎ ((version : Version) × (issuer : List ℕ
 
 -- How the copy isn't of the file: the file isn't begun and the copy has an entry (1); issuer or version differ (0); or the copy has
 -- an entry, of this number from 1, that isn't the file's.
+--= `follow` tells 17 with 0 where issuer or version differ, and else with the first entry of the copy, from 1, that
+--= isn't the file's.
+--= No body: it is of `standby/Standby::arrive.arrives`
 pub data IsParted (file new : List ℕ) : ℕ → Type 0 where
   of_nothing : (version : Version) (issuer : List ℕ) (copy : List Entry) → IsNotBegun file →
       StandsFor version issuer copy new → 1 ≤ length copy → IsParted file new 1
@@ -139,6 +146,7 @@ pub data IsFollowImage (version : Version) (issuer : List ℕ) (history : List E
 
 -- What is left of the copy. Where the file isn't begun nothing is written; else each crash since the start leaves such an image.
 pub record OnlyFollowed {D : Type 0} (file new : Disks D) : Type 0 where
+  --= Where the file isn't begun `follow` writes nothing.
   pub nothing : IsTrue file.tells → IsTrue new.tells → IsNotBegun (file.on_disk file.disk).content →
       new.on_disk new.disk_after ≡ new.on_disk new.disk
   pub damaged : (at : ℕ) → IsTrue file.tells → IsTrue new.tells → IsDamagedFile (file.on_disk file.disk).content at →

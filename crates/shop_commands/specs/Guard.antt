@@ -70,6 +70,9 @@ pub data IsPartedFrom (version : Version) (issuer : List ℕ) (history : List En
       IsPartedFrom version issuer history copy (at + 1)
 
 -- why the copy wasn't brought up to this history
+--= `guard` drains nothing where NEW is damaged (7), is of another issuer or version or has an entry of its own
+--= (17), or its disk's count rose (6).
+--= No body: it is of `catch_up`
 pub data IsUncopied {D : Type 0} (version : Version) (issuer : List ℕ) (history : List Entry) (l : Disks D) : Detail → Type 0 where
   damaged : (at : ℕ) → (IsTrue l.tells → IsDamagedFile (l.on_disk l.disk).content at) →
       (IsTrue l.tells → IsSyncedAtMost (l.on_disk l.disk) (l.on_disk l.disk_after)) →
@@ -96,6 +99,8 @@ pub record NotCopied {D : Type 0} (issuer : List ℕ) (left : Type 0) (s : Sinks
   pub found : IsTrue k.tells → IsFound version issuer start (k.on_disk k.disk).content
   pub any_moment : IsTrue k.tells →
       LeavesOnly (synced (k.on_disk k.disk)) (k.on_disk k.disk_after) (IsFoundSince (k.on_disk k.disk).content version issuer start)
+  --= Where `guard` couldn't bring NEW up, each crash leaves the history that was found in the file.
+  --= No body: it is of `open`
   pub every_crash : IsTrue k.tells → LeavesNow (k.on_disk k.disk_after) (StandsFor version issuer start)
   pub reads : IsTrue k.tells → StandsFor version issuer start (k.on_disk k.disk_after).content
   pub later : k.faults k.disk ≤ k.faults k.disk_after
@@ -117,7 +122,8 @@ pub record FileGuarded {D G : Type 0} (issuer : List ℕ) (plan : Plan) (exact :
   pub outcome : Outcome
   pub file_held : Held
   pub copy_held : Held
-  -- what was said, noted and kept
+  --= `guard` drains file and copy from equal histories, by the definition of a drain.
+  --= No body: it is of `guard_opened`
   pub drains : GuardDrains (StandsSince (k.on_disk k.disk).content version issuer) (GuardImage version issuer (l.on_disk l.disk))
       a.begun plan version issuer
       (file_span k) (whole_span l) (spanning start a.kind a.before a.after exact moment outcome) file_held copy_held
@@ -126,7 +132,8 @@ pub record FileGuarded {D G : Type 0} (issuer : List ℕ) (plan : Plan) (exact :
   -- it is undelivered only where lines are missing and the agency failed eight times
   pub undelivered : (noted_count records_count : ℕ) → end ≡ detail.Undelivered noted_count records_count →
       (noted_count < records_count) × (a.after.faults < greatest_u64 → a.before.faults + MAX_LINK_FAULTS ≤ a.after.faults)
-  -- where no device fails and the agency keeps its rules and agrees, it is done, or memory ran out
+  --= Where no device fails, and the agency keeps its rules and agrees, `guard` ends with 0 or out of memory.
+  --= No body: it is of all that the command calls
   pub complete : NothingRose s k a → (DiskRose l → ⊥) → IsTrue a.kind.keeps_rules → AgreesAtStart a start →
       (end ≡ detail.Done) ⊎ (end ≡ detail.NoMemory)
 
@@ -141,7 +148,8 @@ GuardsFile issuer plan exact moment s k l t z a end =
 pub record FileGuardEnds {D C Z G : Type 0} (issuer : List ℕ) (plan : Plan) (s : Sinks) (k l : Disks D) (t : Clocks C)
     (z : Sleepers Z) (a : Agencies G) (end : Detail) : Type 0 where
   pub ends : GuardsFile issuer plan z.tells (z.moment z.sleeper) s k l t z a end
-  -- the clock isn't read
+  --= `guard` doesn't read the clock.
+  --= No body: it is of `shop_drain/guard_opened.clock`
   pub clock : LeftClock t
 
 -- what `guard` did with a script

@@ -29,6 +29,9 @@ move_end cause.NoMemory = detail.NoMemory
 pub record HasMoved {D : Type 0} (old new : Disks D) (records noted : ℕ) : Type 0 where
   pub free : IsTrue old.tells → IsTrue new.tells → MayBeMoved (old.on_disk old.disk).content (new.on_disk new.disk).content
   pub counts : IsTrue old.tells → HasCounts (old.on_disk old.disk).content records noted
+  --= After 0 and 5 of `migrate` each crash from now on leaves a new file that stands for the old one's history in
+  --= version Two.
+  --= No body: it is of `migrate_counted`: `recovery/MovedOnto.every_crash`
   pub every_crash : IsTrue old.tells → IsTrue new.tells →
       LeavesNow (new.on_disk new.disk_after) (IsMoved (old.on_disk old.disk).content)
   pub reads : IsTrue old.tells → IsTrue new.tells → IsMoved (old.on_disk old.disk).content (new.on_disk new.disk_after).content
@@ -45,6 +48,7 @@ pub data MigrateEnds {D : Type 0} (s : Sinks) (old new : Disks D) : Detail → T
 pub record OnlyMoved {D : Type 0} (old new : Disks D) : Type 0 where
   pub images : IsTrue old.tells → IsTrue new.tells →
       Moves (old.on_disk old.disk).content (new.on_disk new.disk) (new.on_disk new.disk_after)
+  --= A file that the old one can't be moved onto is synced at most.
   pub kept : IsTrue old.tells → IsTrue new.tells →
       KeptUnlessFree (old.on_disk old.disk).content (new.on_disk new.disk) (new.on_disk new.disk_after)
 
@@ -58,6 +62,8 @@ pub record OnePost {D C Z G : Type 0} (f : Further D C Z G) (post after : Post D
   pub one_after : f.posts_after ≡ after ∷ []
   pub clock : after.clock ≡ post.clock
   pub sleeper : after.sleeper ≡ post.sleeper
+  --= Of the further post of `migrate`, `follow` and `guard` the agency isn't called.
+  --= No body: the command is given its disk alone
   pub agency : after.agency ≡ post.agency
 
 -- the one further file is what a migration may leave of it

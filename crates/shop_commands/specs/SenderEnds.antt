@@ -19,6 +19,8 @@ sender_end noted_count records_count fault = fault_end fault
 -- How a day ends, by what its tills and its sender were told, by the two counts of its history, and by what the sink took of its
 -- text: lack of memory before a fault of the disk, that before a contradiction and an undelivered drain, and these before a fault
 -- of the sink. It is done only where all records have noted lines, and an undelivered drain tells the two counts.
+--= The status of a day is the first that holds of 10, 6, 11 or 8, and 5; 0 comes only where every command has an
+--= answer that is no fault, no record waits, and the sink took the whole text.
 pub data DayRunEnds (replies : Replies) (answer : Result (Unit {0}) DrainFault) (noted_count records_count : ℕ) (text : List ℕ)
     (s : Sinks) : Detail → Type 0 where
   done : AllReplied replies → answer ≡ Ok tt → noted_count ≡ records_count → Wrote s text →

@@ -43,6 +43,8 @@ use Rattle.shop_drain.specs.declared.opening.Opened.{Opened}
 use Rattle.shop_drain.specs.declared.posts.Post.{Post}
 
 -- what is printed: the answers, one after another, and the chain line after a source that was read to its end
+--= `serve` prints the answers in order, and the chain line after a source that was read to its end.
+--= No body: it is of `answer_lines`: `dialogue_loop/Spoken.written`
 abbrev pub printed : SpeechEnd → List (List ℕ) → List ℕ → List (List ℕ)
 printed speech.Ended answers chain = answers ++ chain ∷ []
 printed speech.ReadFault answers chain = answers
@@ -51,6 +53,7 @@ printed speech.NoMemory answers chain = answers
 printed speech.Stopped answers chain = answers
 
 -- how it ends once the chain line is written, which comes after the end of the source alone
+--= The chain line of `serve` comes after the end of the source alone, and changes no other end.
 abbrev pub Closes : SpeechEnd → SpeechEnd → Type 0
 Closes speech.Ended speech.Ended = Unit {0}
 Closes speech.Ended speech.WriteFault = Unit {0}
@@ -78,6 +81,9 @@ end_of speech.Stopped noted_count records_count answer = detail.DiskFault
 -- How it ends, by the replies and the sender's answer, by how the reading ended, and by what the sink took of the texts: want of
 -- memory before a fault of the disk, that before a contradiction and an undelivered drain, and these before a fault of the source
 -- or of the sink. It is done only where the source was read to its end and all records have noted lines.
+--= The status of a dialogue is the first that holds of 10, 6, 11 or 8, and 4 or 5; 0 comes only where the source
+--= was read to its end, all commands were answered and each record has its line.
+--= No body: it is made as `shop_commands/DayRunEnds` is
 pub data SpeechEnds (how : SpeechEnd) (replies : Replies) (answer : Result (Unit {0}) DrainFault) (noted_count records_count : ℕ)
     (texts : List (List ℕ)) (s : Sources) (k : Sinks) : Detail → Type 0 where
   done : how ≡ speech.Ended → AllReplied replies → answer ≡ Ok tt → noted_count ≡ records_count → Wrote k (written_for texts) →
@@ -116,7 +122,8 @@ pub record EndsAsSpoken {D C Z G : Type 0} (d : Day) (x : Speech) (s : Sources) 
   pub cause : SpeechEnds x.how x.said.replies d.answer (length (noted d.end)) (length (recs d.end))
       (printed x.how x.said.answers (chain_line (length (recs d.end)) (length (noted d.end)))) s c.sink end
   pub sender : TellsOfSender d c.agency.before end
-  -- where no device fails and the agency keeps its rules and agrees, it is done, or memory ran out
+  --= Where no device fails, and the agency keeps its rules and agrees, `serve` ends with 0 or out of memory.
+  --= No body: it is of all that the command calls
   pub complete : (SourceRose s → ⊥) → NothingRose c.sink c.disk c.agency → IsTrue d.kind.keeps_rules →
       AgreesAtStart c.agency d.start → (end ≡ detail.Done) ⊎ (end ≡ detail.NoMemory)
 
@@ -151,6 +158,8 @@ abbrev pub FileServe : {D C Z G : Type 0} → List ℕ → Option (ℕ × ℕ) �
 FileServe issuer line clock s c end = SpeechNotServed issuer s c end ⊎ SpeechServed issuer line clock s c end
 
 -- what `serve` did, and how it ended: ahead of the opening nothing is read
+--= `serve` reads nothing where the file isn't opened, or there is no memory for its reader.
+--= No body: the file is opened before the first line is asked for
 abbrev pub ServeWays : {D C Z G : Type 0} → List ℕ → AllDevices D C Z G → Detail → Type 0
 ServeWays issuer a end =
     ((end ≡ detail.NoMemory) × ReadNothing a.devices.source × LeftAll (around a))

@@ -38,6 +38,9 @@ pub fn chain_cmd<S: Source, K: Sink, D: Disk, C: Clock>(
     clock: C,
 ) -> (Ended, D, C)
     ensures status { result.0.status ≡ status_of result.0.detail }
+    //= `chain` reads a script, opens the file, takes each command, and prints answers, listing and chain line: each
+    //= end comes exactly with its cause.
+    //= No body: it is of `read_source`, `open`, `Store::take`, `told_of` and `run_end`, each with its own
     ensures ends { ChainEnds issuer.now (record {
       source = this_source S.left S.faults source.old source.new;
       sink = this_sink K.taken K.faults sink.old sink.new;

@@ -65,6 +65,8 @@ where
     T: Gate + Sync,
     R: Threads + Wait + Sync,
     ensures status { result.0.status ≡ status_of result.0.detail }
+    //= `day` reads a script, opens the file and the session, serves the tills with one sender at the same time,
+    //= drains, and prints: each end comes exactly with its cause.
     ensures ends { DayEnds issuer.now (this_call (this_source S.left S.faults source.old source.new)
         (this_sink K.taken K.faults sink.old sink.new) D.Disk C.Clock Z.Sleeper G.Agency post result.1) result.0.detail }
 {

@@ -123,6 +123,9 @@ where
     G: Agency,
     R: Wait,
     ensures status { result.0.status ≡ status_of result.0.detail }
+    //= `drain` reads a script without commands, opens the file and the session, and drains: each end comes exactly
+    //= with its cause.
+    //= No body: it is of `read_source`, `open`, `drain_opened` and `end_by`, each with its own
     ensures ends { DrainEnds issuer.now (this_call (this_source S.left S.faults source.old source.new)
         (this_sink K.taken K.faults sink.old sink.new) D.Disk C.Clock Z.Sleeper G.Agency post result.1) result.0.detail }
 {

@@ -28,10 +28,17 @@ pub fn follow_cmd<K: Sink, D: Disk>(
     standby: D,
 ) -> (Ended, D, D)
     ensures status { result.0.status ≡ status_of result.0.detail }
+    //= `follow` ends with 0 where the copy stands for the file's history; 7 where one of the two is damaged, the
+    //= file first; 17 where the copy isn't of the file.
+    //= No body: it is of `catch_up`, over `standby/Standby::arrive.arrives`
     ensures ends { FollowEnds (this_sink K.taken K.faults sink.old sink.new)
         (this_disk D.tells D.on_disk D.faults shop result.1) (this_disk D.tells D.on_disk D.faults standby result.2) result.0.detail }
+    //= Each crash since the start of `follow` leaves of the copy what it was, or a front of the file's history that
+    //= begins with what it was; where the file isn't begun nothing is written.
     ensures follows { OnlyFollowed (this_disk D.tells D.on_disk D.faults shop result.1)
         (this_disk D.tells D.on_disk D.faults standby result.2) }
+    //= The file that is followed is only read.
+    //= No body: the command calls no write of it
     ensures same { D.on_disk result.1 ≡ D.on_disk shop }
 {
     let mut shop = shop;

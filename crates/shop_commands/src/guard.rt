@@ -215,6 +215,8 @@ where
     R: Wait,
     requires { length outside.more ≡ 1 }
     ensures status { result.0.status ≡ status_of result.0.detail }
+    //= `guard` opens the file, brings NEW up to it, and drains both: each end comes exactly with its cause.
+    //= No body: it is of `open`, `catch_up`, `guard_opened` and `end_by`, each with its own
     ensures ends { GuardRan issuer.now (this_call (this_source S.left S.faults source.old source.new)
         (this_sink K.taken K.faults sink.old sink.new) D.Disk C.Clock Z.Sleeper G.Agency (own_post outside) (own_post result.1))
         (further outside result.1) result.0.detail }

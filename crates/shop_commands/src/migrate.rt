@@ -17,9 +17,16 @@ use std::alloc::Global;
 /// the new one isn't begun or is what an earlier call left unfinished, else it is left as it is.
 pub fn migrate_cmd<K: Sink, D: Disk>(alloc: Global, sink: &mut K, old: D, new: D) -> (Ended, D, D)
     ensures status { result.0.status ≡ status_of result.0.detail }
+    //= `migrate` ends with 0 where the old file could be moved onto the new one and that stands for its history in
+    //= version Two; 7, 15 and 16 say why not.
+    //= No body: it is of `migrate_counted`: `recovery/MovedOnto.reads`
     ensures ends { MigrateEnds (this_sink K.taken K.faults sink.old sink.new)
         (this_disk D.tells D.on_disk D.faults old result.1) (this_disk D.tells D.on_disk D.faults new result.2) result.0.detail }
+    //= Each crash since the start of `migrate` leaves of the new file what a migration may leave; one that can't be
+    //= moved onto is synced at most.
     ensures moves { OnlyMoved (this_disk D.tells D.on_disk D.faults old result.1) (this_disk D.tells D.on_disk D.faults new result.2) }
+    //= The file that is moved is only read.
+    //= No body: it is of `migrate_counted`, which reads it alone
     ensures same { D.on_disk result.1 ≡ D.on_disk old }
 {
     let mut old = old;

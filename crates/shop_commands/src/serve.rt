@@ -66,8 +66,12 @@ where
     T: Gate + Sync,
     R: Threads + Wait + Sync,
     ensures status { result.0.status ≡ status_of result.0.detail }
+    //= `serve` opens the file and the session, answers line by line with a sender at the same time, and drains:
+    //= each end comes exactly with its cause.
     ensures ends { ServeEnds issuer.now (this_call (this_source S.left S.faults source.old source.new)
         (this_sink K.taken K.faults sink.old sink.new) D.Disk C.Clock Z.Sleeper G.Agency post result.1) result.0.detail }
+    //= Of a source of `serve` that counts its failed reads none failed, or one did, and it ends with 4 then, unless
+    //= 10, 6, 11 or 8 holds.
     ensures once { IsTrue S.counts → EndsAtFault (S.faults source.old) (S.faults source.new) result.0.detail }
 {
     let means = Means { rt, alloc, gate };

@@ -122,18 +122,24 @@ pub fn run_day<
     requires room { All (HasRoom asks.now) room.days.items }
     requires jobs { (room.jobs.items ≡ []) × (vec_len room.days ≤ vec_capacity room.jobs) }
     requires begun { IsStarted begun.started }
+    //= A day leaves a history that goes on: each till ran its own asks in order, no other till gained a record, a
+    //= stop is over one entry of a till or of the sender, and where the drain is done each record has its line.
     ensures day { DayRun (store_kind D.Disk C.Clock) (shop_root begun.started.shop) (parts_of result.opened.store)
         (shop_day C.coming asks.now (shop_root begun.started.shop) (parts_of result.opened.store) (map told_in result.tills.items)
         (agency_kind G.Agency) (agency_state_of G.Agency begun.agency) (agency_state_of G.Agency result.opened.agency) true
         result.answer) }
+    //= A day tells of each till that was given, and of no other.
+    //= No body: a till's answers are handed back in the room that it was given
     ensures same { map (λ t. t.till) result.tills.items ≡ map (λ t. t.till) room.days.items }
 
-    // What the sender did by the tills' end, and what it did from there.
+    //= The turns beside a day's tills led to the scene at their end, and one drain from there to the day's end,
+    //= unless a fault had ended them.
     ensures behind { SendsBehind (agency_kind G.Agency) Z.tells true (agency_state_of G.Agency begun.agency)
         (agency_state_of G.Agency result.opened.agency) (scene_in (agency_state_of G.Agency) Z.moment result.met.value)
         (scene_in (agency_state_of G.Agency) Z.moment result.left.value) result.met.value.answer result.answer }
 
-    // The whole session by its steps, from the sleeper's moment at the start.
+    //= A day's whole session is a list of steps from a new sender, each over the records of its own look, from the
+    //= sleeper's moment at the start.
     ensures steps { SessionSteps G.tells Z.tells true (Z.moment begun.sleeper) (shop_root begun.started.shop).history
         (parts_of result.opened.store).state.entries (agency_state_of G.Agency begun.agency)
         (agency_state_of G.Agency result.opened.agency) result.answer }

@@ -34,14 +34,32 @@ pub record Speech : Type 0 where
 -- shorter than any before it, and has exactly the records at the start and those that were taken before it; and this is the clock
 -- line among them, or none.
 pub record IsSpeech (clock : Option (ℕ × ℕ)) (d : Day) (s : Sources) (x : Speech) : Type 0 where
+  --= What is said, asked and written for the lines of `serve` is their dialogue, by the grammar of scripts.
+  --= No body: it is of `answer_lines`: `dialogue_loop/Spoken.dialogue`
   pub dialogue : Dialogue x.said
   pub pairs : length x.said.replies ≡ length x.said.asks
+  --= The clock line among the lines of `serve` is the one that replaced clock and sleeper.
+  --= No body: it is of `answer_lines` and of `serve_cmd`
   pub clock_is : clock_said x.said.before ≡ clock
   pub of_tills : AllByRecursion IsOfTill x.said.asks
+  --= Each till of `serve` was told its own of the replies, in their order.
+  --= No body: it is of `answer_lines`: `dialogue_loop/Spoken.ran`
   pub told : AllByRecursion (λ (t : TillReplies). t.replies ≡ replies_of t.till x.said.asks x.said.replies) d.tills
+  --= The commands of `serve`, in the order of their lines, are one run, whose records are those at the start and
+  --= those taken since, by whichever till.
+  --= No body: it is of `answer_lines`: `dialogue_loop/Spoken.run`
   pub run : IsOneRun d.version d.issuer d.coming d.start d.end x.said.asks x.said.replies x.said.looks
+  --= Each question of `serve` was answered at a history that begins with the one at the start and is a front of the
+  --= one at the end; none is shorter than the one before it.
+  --= No body: it is of `answer_lines`: `dialogue_loop/Spoken.looked`
   pub looked : AreLooked d.start d.end x.said.replies x.said.looks
+  --= The lines of `serve` are the source's, in order: all of them where it was read to its end, and else none after
+  --= the last one that was answered, but for one that no memory was left to hear.
+  --= No body: it is of `answer_lines`: `dialogue_loop/Spoken.read`
   pub read : IsRead x.how s.left s.left_after x.said.lines
+  --= The replies of `serve` go on up to the first fault of the disk, which is the last of them, and its answer is
+  --= the last answer.
+  --= No body: it is of `answer_lines`: `dialogue_loop/Spoken.replies_are`
   pub replies_are : AreRepliesOf x.how x.said.asks x.said.replies x.said.answers
   pub read_fault : x.how ≡ speech.ReadFault → SourceRose s
 
@@ -64,6 +82,8 @@ pub record SpeaksOn {C : Type 0} (coming : C → ℕ → Option ℕ) (counts : B
   pub once : IsTrue counts → (faults : ℕ) → ComesOnce faults from.source_faults first → EndsOnce faults now.source_faults how
 
 -- whether a drain follows a dialogue that ended so: always, but after a fault of the disk
+--= A drain follows a dialogue, but after one that ended at a fault of the disk.
+--= No body: a definition, cited by `shop_dialogue/run_dialogue.behind`
 abbrev pub drains_after : SpeechEnd → Bool
 drains_after speech.Ended = true
 drains_after speech.ReadFault = true

@@ -199,6 +199,8 @@ pub fn run_dialogue<
     requires room { (held.items ≡ []) × (LAST_TILL ≤ vec_capacity held) }
     requires begun { IsStarted begun.started }
     requires first { HasCome (S.left source.old) (S.faults source.old) listener first.now }
+    //= What was said to the tills is a dialogue, and what it made of the shop is as of a day: its history goes on,
+    //= each till ran its own of the commands, and where the drain is done each record has its line.
     ensures run { (left : Option (List ℕ)) (faults : ℕ) → ComesFirst left (S.left source.old) listener first.now →
         faults ≤ S.faults source.old → IsCause faults (S.faults source.old) first.now →
         DialogueRun (store_kind D.Disk C.Clock) (shop_root begun.started.shop) (parts_of result.opened.store)
@@ -206,16 +208,17 @@ pub fn run_dialogue<
         (moment_of S.left S.faults K.taken K.faults source.new sink.new) (agency_kind G.Agency)
         (agency_state_of G.Agency begun.agency) (agency_state_of G.Agency result.opened.agency) result.answer result.lacked result.how }
 
-    // Of a source that counts each failed read one failed where a read fault is told, and else none.
+    //= Of a dialogue's source that counts its failed reads one failed where a read fault is told, and else none.
     ensures once { IsTrue S.counts → (faults : ℕ) → ComesOnce faults (S.faults source.old) first.now →
         EndsOnce faults (S.faults source.new) result.how }
 
-    // What the sender did by the dialogue's end, and what it did from there.
+    //= After a dialogue the sender makes one drain, unless a fault had ended it; after a fault of the disk it does
+    //= nothing more.
     ensures behind { SendsBehind (agency_kind G.Agency) Z.tells (spec.drains_after result.how) (agency_state_of G.Agency begun.agency)
         (agency_state_of G.Agency result.opened.agency) (scene_in (agency_state_of G.Agency) Z.moment result.met.value)
         (scene_in (agency_state_of G.Agency) Z.moment result.left.value) result.met.value.answer result.answer }
 
-    // The whole session by its steps, from the sleeper's moment at the start.
+    //= A dialogue's whole session is a list of steps from a new sender, from the sleeper's moment at the start.
     ensures steps { SessionSteps G.tells Z.tells (spec.drains_after result.how) (Z.moment begun.sleeper)
         (shop_root begun.started.shop).history (parts_of result.opened.store).state.entries (agency_state_of G.Agency begun.agency)
         (agency_state_of G.Agency result.opened.agency) result.answer }

@@ -90,35 +90,50 @@ spanning start kind old new exact moment o = record {
 -- line, which then isn't told.
 pub record TearsLast (going last : List Step) (turns : List TurnLine) (answer : Result (Unit {0}) DrainFault) : Type 0 where
   pub line : EndsSaying last told.Disk
+  --= Where notes are torn, the line of the last step is `fault disk`, which is told and is the answer, or is left
+  --= out since memory ran out for it.
+  --= No body: it is a part of `shop_drain/Sends.torn_told`
   pub printed : ((answer ≡ Err (drain.Store store.DiskFault)) × (turns ≡ map line_in (going ++ last)))
       ⊎ ((answer ≡ Err drain.NoMemory) × (turns ≡ map line_in going))
 
 -- With an agency that keeps its rules: it agrees with the history, and with what may be torn; it contradicts itself never; and
 -- the turns are bounded by the batches that waited and by the link faults.
 pub record StillAgrees (d : Span) : Type 0 where
+  --= An agency that keeps its rules, and agreed when a drain began, agrees with the history at its end.
+  --= No body: it is of `turn`, whose clauses keep the agreement
   pub whole : Agree d.end d.new.ledger.processed d.new.ledger.sent
   pub torn : Agree (d.end ++ d.torn) d.new.ledger.processed d.new.ledger.sent
   pub no_contradiction : (evidence : Evidence) → IsErrOf d.answer (drain.Contradiction evidence) → ⊥
+  --= With an agency that keeps its rules and agrees, the turns of a drain are within 2 B + 6 F + 8, of B batches
+  --= that wait and F faults of the link.
+  --= No body: it is of `Sender::drain`
   pub bound : (batches : ℕ) → length (waiting d.start) ≤ MAX_BATCH * batches → IsBounded batches [] d.turns
 
 -- What a new sender does by its turns, over an agency whose session is open.
 pub record Sends (d : Span) : Type 0 where
+  --= Notes alone come after the history in a drain.
+  --= No body: a drain has no till
   pub notes : AddsNotesAlone d.start d.end
   pub torn_notes : AllByRecursion AreNotesEntry d.torn
   pub at_most_one : length d.torn ≤ 1
-  -- at Ok all is noted
+  --= A drain that is done leaves each record with its line.
+  --= No body: it is of `sender/Sender::drain.drained`
   pub all_noted : OnOk d.answer (length (noted d.end) ≡ length (recs d.end))
-  -- what it said and noted, turn by turn, and the lines that stand for it
+  --= A drain is the turns of one sender, which are its steps, with a line for each of them but the last quiet one.
+  --= No body: it is of `sender/Sender::drain.drained`
   pub steps : Steps d.kind.tells d.exact (recs d.start) (length (noted d.start)) (length (noted d.end)) d.moment d.old d.new
       d.turns d.answer
-  -- notes are torn only where the last step's line is the disk's fault
+  --= Notes of a drain are torn only where the last step's line is the disk's fault.
   pub torn_told : (d.torn ≡ []) ⊎ TearsLast steps.going steps.last d.turns d.answer
-  -- the lines that were noted are those that its messages say, each message of the first records that waited
+  --= The lines that a drain noted are those that its messages say, each message of the first records that waited.
+  --= No body: it is of `turn` and of `Store::note`: `sender/Turned.deals`
   pub lines : IsTrue d.kind.tells → NotesSaid d.start d.end d.old.ledger.messages d.new.ledger.messages d.answer
   pub torn_lines : IsTrue d.kind.tells → AllByRecursion (TornSaid d.end d.new.ledger.messages) d.torn
   -- where shop and agency agreed they still do
   pub agreement : IsTrue d.kind.keeps_rules → Agree d.start d.old.ledger.processed d.old.ledger.sent → StillAgrees d
-  -- no record is handed over again unless a consultation since has answered that it wasn't seen
+  --= A drain hands no record over again unless a consultation since has answered that it wasn't seen, where each
+  --= batch before is a run of the chain that ends at most 1000 past the noted records.
+  --= No body: it is of `turn`: `sender/RepeatsNothingBlindly.careful`
   pub careful : IsTrue d.kind.tells →
       AreRunsBy (recs d.start) (length (noted d.start) + MAX_BATCH) (batches_in d.old.ledger.messages) →
       SaysNothingBlindly d.old.ledger.messages d.new.ledger.messages
@@ -131,13 +146,20 @@ Beginning = List (Sealed × Line) → List (Sealed × Line) → List (Sealed × 
 
 -- a session was opened, with this plan and the pairs noted in the history
 pub record OpensSession (kind : AgencyKind) (begun : Beginning) (plan : Plan) (start : List Entry) (old opened : AgencyState) : Type 0 where
+  --= An agency that tells its messages tells one opening, with this plan and as many pairs as the file notes.
+  --= No body: it is of `begin` of the agency, whose row has it
   pub lists : IsTrue kind.tells → Begins old.ledger opened.ledger plan (length (noted start))
+  --= An agency that keeps its rules has, once its session is open, processed what its kind makes of the noted
+  --= pairs.
+  --= No body: it is of `begin` of the agency
   pub rules : IsTrue kind.keeps_rules → opened.ledger.processed ≡ begun old.ledger.processed (noted_pairs start)
   pub faults : opened.faults ≡ old.faults
 
 -- memory ran out for it, and nothing was done
 pub record IsUnopened (d : Span) : Type 0 where
   pub answer : d.answer ≡ Err drain.NoMemory
+  --= Where there is no memory for a drain's session nothing is said or noted.
+  --= No body: it is of `begin`, which hands the store back
   pub turns : d.turns ≡ []
   pub lists : IsTrue d.kind.tells → d.new.ledger ≡ d.old.ledger
   pub faults : d.new.faults ≡ d.old.faults
@@ -197,13 +219,19 @@ pub record StoreDrains (P : List Entry → List Entry → List Entry → List �
   pub session : IsUnopened d ⊎ IsSession begun plan d
   pub notes : AddsNotesAlone d.start d.end
   pub legal : Legal version issuer d.end
+  --= A drain leaves a legal, linked history.
+  --= No body: it is of `State::is_legal`, a law of each history
   pub linked : Linked issuer (recs d.end)
+  --= Each crash in a drain leaves a front of the history at the end, with what is torn, and now the whole.
+  --= No body: it is of `Store::note`
   pub kept : IsTrue k.tells → SurvivesCrashes (P d.start d.end d.torn) version issuer d.end d.torn k.since k.now
-  -- where the agency agrees it does with the history of each file that a crash now leaves
+  --= Where the agency agrees after a drain, it does with the history of each file that a crash now leaves.
+  --= No body: it is of `Store::note` and of `turn`
   pub images : IsTrue k.tells → StillAgrees d → LeavesNow k.now (AgreesInFile version issuer d.new)
   -- the disk's count of faults rose where it failed
   pub risen : IsDiskAnswer d.answer → Rose k.faults k.faults_after
-  -- and wherever notes are torn
+  --= Notes of a drain are torn only where the disk's count of faults rose.
+  --= No body: it is of `Store::note`
   pub torn_risen : (d.torn ≡ []) ⊎ Rose k.faults k.faults_after
   pub later : k.faults ≤ k.faults_after
 

@@ -51,6 +51,9 @@ held_by chain = record { entries = chain.history.entries; torn = torn_in chain.s
 -- copy's disk failed at notes that the file has.
 pub record AreHeld (end torn : List Entry) (file copy : Held) : Type 0 where
   pub copy_is : copy.entries ≡ end
+  --= A guarded file has what its copy has, and what is torn is its own; or the copy's disk failed, and the file has
+  --= the lines that were torn there.
+  --= No body: it is of `standby/IsPair.beside`
   pub file_is : ((file.entries ≡ end) × (file.torn ≡ torn) × (copy.torn ≡ []))
       ⊎ ((file.entries ≡ end ++ torn) × (file.torn ≡ []) × (copy.torn ≡ torn))
 
@@ -58,14 +61,19 @@ pub record AreHeld (end torn : List Entry) (file copy : Held) : Type 0 where
 pub record ChainDrained (P : List Entry → List Entry → List Entry → List ℕ → Type 0) (version : Version) (issuer : List ℕ)
     (start : List Entry) (h : Held) (k : DiskSpan) (d : Span) : Type 0 where
   pub notes : AddsNotesAlone start h.entries
-  -- the lines that were noted are the first of those that the messages say
+  --= The lines in a guarded file and in its copy are the first of those that the messages say.
+  --= No body: it is of `turn` and of `Pair::note`
   pub said : IsTrue d.kind.tells → NotesWhatIsSaid start h.entries d.old.ledger.messages d.new.ledger.messages
   pub legal : Legal version issuer h.entries
   pub linked : Linked issuer (recs h.entries)
+  --= Each crash while `guard` drains leaves of file and copy a front of what each has at the end, with what is
+  --= torn, and now the whole.
+  --= No body: it is of `Pair::note`
   pub kept : IsTrue k.tells → SurvivesCrashes (P start h.entries h.torn) version issuer h.entries h.torn k.since k.now
   -- where the agency agrees it does with the history of each file that a crash now leaves
   pub images : IsTrue k.tells → StillAgrees d → LeavesNow k.now (AgreesInFile version issuer d.new)
-  -- the disk's count of faults rose wherever notes are torn
+  --= Lines are torn in a guarded file or in its copy only where its own disk's count rose.
+  --= No body: it is of `Pair::note`
   pub torn_risen : (h.torn ≡ []) ⊎ Rose k.faults k.faults_after
   pub later : k.faults ≤ k.faults_after
 
@@ -73,9 +81,12 @@ pub record ChainDrained (P : List Entry → List Entry → List Entry → List �
 -- at the end.
 pub record GuardDrains (P Q : List Entry → List Entry → List Entry → List ℕ → Type 0) (begun : Beginning) (plan : Plan)
     (version : Version) (issuer : List ℕ) (k l : DiskSpan) (d : Span) (file copy : Held) : Type 0 where
+  --= All that is said of a drain's session holds of what a guarded file and its copy both hold.
+  --= No body: it is of `Sender::drain`, over the pair as its outbox
   pub session : IsUnopened d ⊎ IsSession begun plan d
   pub shop : ChainDrained P version issuer d.start file k d
   pub standby : ChainDrained Q version issuer d.start copy l d
   pub ahead : AreHeld d.end d.torn file copy
-  -- the count of faults of one of the two disks rose where a disk failed
+  --= `guard` answers a fault of the disk only where the count of one of the two disks rose.
+  --= No body: it is of `Pair::note`
   pub risen : IsDiskAnswer d.answer → Rose k.faults k.faults_after ⊎ Rose l.faults l.faults_after

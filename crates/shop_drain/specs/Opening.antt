@@ -28,6 +28,9 @@ opening_end cause.NoMemory = detail.NoMemory
 -- there was no room for what was to come: nothing was printed, and neither the file nor the rest was touched
 pub record NoRoom {D : Type 0} (left : Type 0) (s : Sinks) (k : Disks D) (end : Detail) : Type 0 where
   pub ends : end ≡ detail.NoMemory
+  --= Where memory runs out for the script or for the replies nothing is printed, and neither file nor clock is
+  --= touched.
+  --= No body: each command makes room first
   pub wrote : WroteNothing s
   pub disk : LeftDisk k
   pub rest : left
@@ -37,8 +40,16 @@ pub record NotOpened {D : Type 0} (issuer : List ℕ) (left : Type 0) (s : Sinks
   pub why : OpenCause
   pub ends : end ≡ opening_end why
   pub risen : why ≡ cause.DiskFault → DiskRose k
+  --= 7 comes where the file is damaged at this byte, 13 where it is the chain of this other issuer, and 6 only
+  --= where the disk's count of faults rose.
+  --= No body: it is of `chain_store/open_journal.left`
   pub left_by : IsTrue k.tells → IsLeftUnopened issuer why (k.on_disk k.disk) (k.on_disk k.disk_after)
+  --= Where the file wasn't opened, the sync at the start failed, or each crash since it leaves the bytes that stood
+  --= there, or, where these were no begun file, one that isn't begun or is begun and empty.
+  --= No body: it is of `open_journal`: `chain_store/open_journal.left` and `chain_store/open_journal.unwritten`
   pub every_crash : IsTrue k.tells → KeepsFile issuer (k.on_disk k.disk) (k.on_disk k.disk_after)
+  --= Where the file wasn't opened nothing is printed.
+  --= No body: each command opens first, and prints by what it opened
   pub wrote : WroteNothing s
   pub rest : left
 
@@ -48,6 +59,8 @@ pub record IsOpened {D C : Type 0} (issuer : List ℕ) (h : StoreKind D C) (disk
   pub issuer_is : store.state.issuer ≡ issuer
   pub clock_is : store.clock ≡ clock
   pub found : IsTrue h.tells → IsFound store.state.version issuer store.state.entries (h.on_disk disk).content
+  --= Each crash since the sync that opening begins with leaves what was found: a file that isn't begun only where
+  --= it wasn't at the start.
   pub any_moment : IsTrue h.tells →
       LeavesOnly (synced (h.on_disk disk)) (h.on_disk store.disk)
       (IsFoundSince (h.on_disk disk).content store.state.version issuer store.state.entries)

@@ -116,14 +116,18 @@ pub fn drain_opened<D: Disk, C: Clock, Z: Sleeper, G: Agency, R: Wait>(
 ) -> DrainEnd<D, C, Z, G>
     requires going_on { stopped_of (journal_of opened.store) ≡ None }
     requires ready { Ready D.tells D.on_disk opened.store }
+    //= A drain leaves of an opened file, of its disk and of the agency what its definition says: notes alone come,
+    //= by the turns of one new sender.
     ensures drains { StoreDrains (StandsUpTo (state_of opened.store).version (state_of opened.store).issuer) G.begun plan.now
         (state_of opened.store).version (state_of opened.store).issuer
         (disk_span D.Disk (disk_of (journal_of opened.store)) (disk_of (journal_of result.opened.store)))
         (spanning (state_of opened.store).entries (agency_kind G.Agency) (agency_state_of G.Agency opened.agency)
         (agency_state_of G.Agency result.opened.agency) Z.tells (Z.moment opened.sleeper) (outcome_of result)) }
 
-    // The clock isn't read.
+    //= A drain doesn't read the clock.
     ensures clock { clock_of result.opened.store ≡ clock_of opened.store }
+    //= The sleeper rests in no drain.
+    //= No body: it is of `sender/Sender::drain.no_rest`
     ensures no_rest { Z.without_rest opened.sleeper result.opened.sleeper }
 {
     // A drain needs none: another stands in its place meanwhile.

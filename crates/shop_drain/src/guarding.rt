@@ -93,6 +93,8 @@ pub fn guard_opened<D: Disk, C: Clock, M: Disk, Z: Sleeper, G: Agency, R: Wait>(
     requires issuer { standby.history.issuer ≡ (state_of opened.store).issuer }
     requires version { standby.history.version ≡ (state_of opened.store).version }
     requires entries { standby.history.entries ≡ (state_of opened.store).entries }
+    //= Of a file and a copy with the same history a drain leaves what the definition says of both.
+    //= No body: it is of `standby/Pair::note.both`
     ensures drains { GuardDrains (StandsUpTo (state_of opened.store).version (state_of opened.store).issuer)
         (StandsUpTo (state_of opened.store).version (state_of opened.store).issuer) G.begun plan.now
         (state_of opened.store).version (state_of opened.store).issuer
@@ -102,7 +104,8 @@ pub fn guard_opened<D: Disk, C: Clock, M: Disk, Z: Sleeper, G: Agency, R: Wait>(
         (agency_state_of G.Agency result.opened.agency) Z.tells (Z.moment opened.sleeper) (guard_outcome result))
         (held_by (chain_of result.opened.store)) (held_by result.standby) }
 
-    // The clock isn't read.
+    //= A drain over a file and its copy doesn't read the clock.
+    //= No body: it is of `Pair`, which reads none
     ensures clock { clock_of result.opened.store ≡ clock_of opened.store }
     ensures no_rest { Z.without_rest opened.sleeper result.opened.sleeper }
 {

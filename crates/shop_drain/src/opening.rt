@@ -133,8 +133,11 @@ pub fn open<D: Disk, C: Clock, Z, G>(
 ) -> Result<Opened<D, C, Z, G>, Unopened<D, C, Z, G>>
     ensures ready { IfOk result (λ o. Ready D.tells D.on_disk o.store) }
     ensures going_on { IfOk result (λ o. stopped_of (journal_of o.store) ≡ None) }
+    //= Opening gives a store of this issuer with the history that the file stands for; the clock isn't read.
     ensures opened { IfOk result (λ o. IsOpened issuer.now (store_kind D.Disk C.Clock) post.disk post.clock (parts_of o.store)) }
     ensures kept { IfOk result (λ o. (o.sleeper ≡ post.sleeper) × (o.agency ≡ post.agency)) }
+    //= Where the file can't be opened it tells why; a fault of the disk comes only where the disk's count rose.
+    //= No body: it is of `open_store`, whose clauses refuse other causes
     ensures unopened { IfErr result (λ u. IsUnopened issuer.now u.why (disk_in D.Disk post u.post)) }
     ensures left { IfErr result (λ u. (u.post.clock ≡ post.clock) × (u.post.sleeper ≡ post.sleeper)
         × (u.post.agency ≡ post.agency)) }
@@ -208,10 +211,15 @@ pub fn begin<D: Disk, C: Clock, Z, G: Agency>(
     requires few { length tills.now ≤ LAST_TILL }
     requires going_on { stopped_of (journal_of opened.store) ≡ None }
     requires ready { Ready D.tells D.on_disk opened.store }
+    //= A shop begins over an opened file with a till for each number.
+    //= No body: it is of `Shop::start`
     ensures shop { IfOk result (λ b. IsBegun D.on_disk D.faults (parts_of opened.store) tills.now b.started) }
+    //= The agency's session is opened with this plan and the pairs noted in the file.
     ensures session { IfOk result (λ b. OpensSession (agency_kind G.Agency) G.begun plan.now
         (parts_of opened.store).state.entries (agency_state_of G.Agency opened.agency) (agency_state_of G.Agency b.agency)) }
     ensures sleeper { IfOk result (λ b. b.sleeper ≡ opened.sleeper) }
+    //= Where memory runs out the store comes back as it was, with the session opened or not.
+    //= No body: it is of `Shop::start`, which hands it back
     ensures refused { IfErr result (λ o. (parts_of o.store ≡ parts_of opened.store) × (o.sleeper ≡ opened.sleeper)
         × (IsUnbegun (agency_kind G.Agency) (agency_state_of G.Agency opened.agency) (agency_state_of G.Agency o.agency)
         ⊎ OpensSession (agency_kind G.Agency) G.begun plan.now (parts_of opened.store).state.entries

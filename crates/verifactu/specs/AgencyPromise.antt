@@ -16,16 +16,16 @@ use Rattle.shop_drain.specs.Draining.{AgreesAtStart}
 pub record AgencyAgrees {G : Type 0} (start end torn : List Entry) (a : Agencies G) : Type 0 where
   --= No record is handed over again until a consultation since has answered that it was not seen: of an agency whose
   --= messages are known, and that was handed nothing but this chain before.
-  --= No body: it is of `turn`, whose clause refuses a blind repeat
+  --= No body: it is of `turn`: `sender/RepeatsNothingBlindly.careful`
   pub careful : IsTrue a.kind.tells → AreOfChain start a.before.ledger.messages →
       SaysNothingBlindly a.before.ledger.messages a.after.ledger.messages
   --= What was noted are the first of the lines that the agency said.
-  --= No body: it is of `turn` and of `Store::note`
+  --= No body: it is of `turn` and of `Store::note`: `sender/Turned.deals`
   pub said : IsTrue a.kind.tells →
       NotesWhatIsSaid start end a.before.ledger.messages a.after.ledger.messages
   --= An agency that keeps its rules, and that agreed with the file when the session was opened, has processed the
   --= first records of the chain, each once and in order.
-  --= No body: it is of `turn`
+  --= No body: it is of `turn`: `sender/Turned.deals`
   pub agrees : IsTrue a.kind.keeps_rules → AgreesAtStart a start →
       Agree end a.after.ledger.processed a.after.ledger.sent
       × Agree (end ++ torn) a.after.ledger.processed a.after.ledger.sent
@@ -40,7 +40,7 @@ pub data AgencyKept {G : Type 0} (start end torn : List Entry) (a : Agencies G) 
 
 -- Where all that was ever handed over is of the chain, it is so at the end: what `careful` wants of the next run.
 --= Where all that was ever handed over was of the chain, it is so at the end.
---= No body: it is of `turn`
+--= No body: it is of `turn`: `sender/Turned.shows`
 abbrev pub BatchesKept : {G : Type 0} → List Entry → List Entry → Agencies G → Type 0
 BatchesKept start end a = IsTrue a.kind.tells → AreOfChain start a.before.ledger.messages →
     AreOfChain end a.after.ledger.messages

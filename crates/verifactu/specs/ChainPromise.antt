@@ -46,27 +46,27 @@ pub record AppendsOnly (version : Version) (issuer : List ℕ) (start : List Ent
 -- file is append-only.
 pub record ChainGoesOn {D : Type 0} (version : Version) (issuer : List ℕ) (start end torn : List Entry) (k : Disks D) : Type 0 where
   --= The chain that the file stood for is the beginning of the chain that it stands for afterwards.
-  --= No body: an entry is added by `Journal::append` alone, whose clauses refuse those that lose one
+  --= No body: an entry is added by `Journal::append` alone: `journal/append.appended`
   pub begins : IsPrefix start end
   --= The chain is legal: each entry continues those before it, by the rules of its version.
-  --= No body: a record is made by `plan` alone, whose clauses refuse those that make another
+  --= No body: a record is made by `shop_core/plan.answer` alone
   pub legal : Legal version issuer end
   --= Each record names the record before it by number, date and Huella.
-  --= No body: the link is made by `plan` and sealed by `seal`, whose clauses refuse other ones
+  --= No body: the link is made by `shop_core/plan.answer` and sealed by `huella/seal`
   pub linked : Linked issuer (recs end)
   pub at_most_one : length torn ≤ 1
   --= Only where the disk failed during a write may one entry more stand at the end.
-  --= No body: it is of `Journal::append`, which stops for good at a fault
+  --= No body: it is of `journal/append.stops`
   pub by_a_fault : (torn ≡ []) ⊎ DiskRose k
   --= The file stands for the chain at the end, or for that with the one entry whose writing was under way.
-  --= No body: it is of `Journal::append` and of `open_journal`
+  --= No body: it is of `journal/append.any_moment` and of `chain_store/open_journal.any_moment`
   pub file : IsEither version issuer end torn (k.on_disk k.disk_after).content
   --= Where nothing was pending at the start, a crash at any moment of the run leaves a front of that chain, no shorter
   --= than what the run found.
   pub each_crash : IsSettled (k.on_disk k.disk) → (m : ℕ) (c : List ℕ) → moment (k.on_disk k.disk) ≤ m →
       IsLeft (k.on_disk k.disk_after) m c → StandsSince (k.on_disk k.disk).content version issuer start end torn c
   --= From the first sync on a crash leaves such a front, and once the run is over the whole chain.
-  --= No body: it is of `Journal::append` and of `open_journal`
+  --= No body: it is of `journal/append.any_moment` and of `chain_store/open_journal.any_moment`
   pub crashes : Crashes (StandsSince (k.on_disk k.disk).content version issuer start end torn) (IsEither version issuer end torn)
       (k.on_disk k.disk) (k.on_disk k.disk_after)
   --= The file is append-only: the bytes before the closing gate that it had at the start are the first bytes of the

@@ -61,12 +61,12 @@ pub record FileKept {D C Z G : Type 0} (writes : Option (List ℕ)) (a : AllDevi
   pub fresh : IsTrue a.devices.disk.tells → (issuer : List ℕ) → writes ≡ Some issuer →
       IsNotBegun (a.devices.disk.on_disk a.devices.disk.disk).content → Grows Two issuer [] a
   --= Every other file stays as it was, synced at most: a damaged one and another issuer's among them.
-  --= No body: it is of `open_journal`, whose clause `left` refuses a write
+  --= No body: it is of `open_journal`: `chain_store/open_journal.left` and `chain_store/open_journal.unwritten`
   pub others : IsTrue a.devices.disk.tells → (IsOwn writes (a.devices.disk.on_disk a.devices.disk.disk).content → ⊥) →
       IsUnwritten (a.devices.disk.on_disk a.devices.disk.disk) (a.devices.disk.on_disk a.devices.disk.disk_after)
   --= A command that names no issuer, and a faulty command line, leaves all that the disk tells, and calls neither
   --= sleeper nor agency.
-  --= No body: it is of each command that reads, whose own bodies are in `file_commands`
+  --= No body: each command that reads calls no write of its disk
   pub reads : writes ≡ None →
       (a.devices.disk.on_disk a.devices.disk.disk_after ≡ a.devices.disk.on_disk a.devices.disk.disk) × NobodyCalled a
 

@@ -29,7 +29,7 @@ pub record CopyGoesOn {D : Type 0} (version : Version) (issuer : List ℕ) (star
   pub torn : List Entry
   pub chain : ChainGoesOn version issuer start end torn k
   --= A copy that `guard` writes stays a front of the file's chain, whatever crash comes.
-  --= No body: it is of `pair` and of `catch_up`, whose clauses refuse other pieces
+  --= No body: it is of `standby/IsPair.beside` and of `standby/Standby::arrive.arrives`
   pub images : IsTrue l.tells →
       LeavesOnly (l.on_disk l.disk) (l.on_disk l.disk_after) (IsFollowImage version issuer (end ++ torn) (l.on_disk l.disk))
 
@@ -62,7 +62,7 @@ CopyAppends =
 module _ {D C Z G : Type 0} (d : disk.Ghosts D) (c : clock.Ghosts C) (z : sleeper.Ghosts Z) (g : agency.Ghosts G) where
   -- a file for each of these issuers, and what goes with it, each by its own devices alone
   --= Each file of `many` is kept so for its own issuer, by its own devices alone.
-  --= No body: it is of `many_cmd`, whose clauses refuse the parts of another
+  --= No body: it is of `many_cmd`: `many_issuers/Works.played`
   abbrev pub AreKept : List (List ℕ) → Sources → Sinks → List (Post D C Z G) → List (Post D C Z G) → Type 0
   AreKept [] source s [] [] = Unit {0}
   AreKept (issuer ∷ issuers) source s (post ∷ posts) (after ∷ afters) =

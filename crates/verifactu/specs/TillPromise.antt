@@ -61,14 +61,14 @@ pub record TillsGain (s : Sources) (start end : List Entry) : Type 0 where
   pub asks : List Asked
   --= What the tills asked is what the source gave: the script's commands, the commands among the lines, or those of an
   --= issuer's part.
-  --= No body: it is of `read_source` and of `answer_lines`
+  --= No body: it is of `read_source` and of `answer_lines`: `dialogue_loop/Spoken.dialogue`
   pub asked : AreAskedIn s asks
   pub told : List (ℕ × Replies)
   pub tills : map (λ (t : ℕ × Replies). t.0) told ≡ tills_of asks
   --= Each till gained the records of its commands that were answered as taken, each once, in its order, under its
   --= serial, with the receipt that it was told.
-  --= No body: an answer is made by `plan`, and a till's own records are told apart by `till_calls`, whose clauses
-  --= refuse other ones
+  --= No body: an answer is made by `shop_core/plan.answer`, and each till's records are told apart by
+  --= `till_calls/Shop::ask.asks`
   pub own : AllByRecursion (λ (t : ℕ × Replies). AreAccepted (asks_of t.0 asks) t.1
       (own_of t.0 (drop (length start) end))) told
   --= No till gained a record that asked nothing.

@@ -358,6 +358,7 @@ fn further_pairs(words: &[String]) -> u16
 /// How many posts a run by these words needs besides the first one: 1 for those of `migrate`, `follow`
 /// and `guard`, whose file is NEW, and for those of `many` one less than its pairs.
 pub fn posts_needed(words: &[String]) -> u16
+    //= A run is given as many further files as its words name.
     ensures count { result ≡ spec.posts_needed (map string_bytes words.now) }
     ensures few { result ≤ 7 }
 {
@@ -446,6 +447,8 @@ fn help_by(words: &[String]) -> Option<Command>
 
 /// The command that the words ask for, None exactly where they ask for none.
 pub fn command_of(words: &[String]) -> Option<Command>
+    //= The words ask for one command, or for none: those that hold `--help` or `-h` in another form than that of a
+    //= help ask for none.
     ensures { IsAskedFor (map string_bytes words.now) result }
 {
     if let Some(help) = help_by(words) {
@@ -459,6 +462,7 @@ pub fn command_of(words: &[String]) -> Option<Command>
 
 /// Whether a run by these words hands what waits to its agency: those of `day`, `serve`, `drain`, `guard` and `many` do.
 pub fn asks_to_send(words: &[String]) -> bool
+    //= It is told exactly whether the words ask for `day`, `serve`, `drain`, `guard` or `many`.
     ensures { AsksToSend (map string_bytes words.now) result }
 {
     match command_of(words) {

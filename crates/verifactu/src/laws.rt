@@ -41,11 +41,24 @@ pub fn what_was_handed_over_stays_of_the_chain()
 /// one only where the disk's count of faults rose; it is a till's or the sender's; where the shop stopped, a till or the sender was
 /// told; and at most one ask of all tills is answered with a fault of its own record.
 pub fn a_day_stops_once()
+    //= After a day at most one entry is torn.
+    //= No body: a law over definitions, which has no body
     ensures one { TearsAtMostOne }
+    //= None is torn without a fault that a till or the sender was answered.
+    //= No body: a law over definitions, which has no body
     ensures fault { TearsByAFault }
+    //= One is torn only where the disk's count of faults rose.
+    //= No body: a law over definitions, which has no body
     ensures rose { TearsWhereItRose }
+    //= It is the record of a till's ask that was answered with the disk's fault, or notes of the sender that met
+    //= it.
+    //= No body: a law over definitions, which has no body
     ensures whose { TearsForTillOrSender }
+    //= Where the shop stopped, a till was told of it, or the sender at its notes.
+    //= No body: a law over definitions, which has no body
     ensures told { TellsOfItsStop }
+    //= At most one ask of all tills is answered with a fault of its own record.
+    //= No body: a law over definitions, which has no body
     ensures once { FaultsOnce }
 {}
 
