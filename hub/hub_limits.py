@@ -29,10 +29,11 @@ MOST_LOG = 1_048_576  # bytes that wait for the reader of standard error
 LAST_LINES = 2  # seconds that they may take at the end
 
 # the program
+MOST_TILLS = 64
 MOST_CUSTOMERS = 9_900  # said in one run; the program takes 10,000, and more may be on their way
 MOST_ANSWER = 65_536  # bytes of one answer
 LONGEST_PAUSE = 60  # seconds until the program is started again, at most
-PATIENCE = 10  # seconds that a program may take to end after a fault of its disk
+KILLED_AFTER = 10  # seconds that a program may take to end after a fault of its disk
 TURNS = 2  # so often the program may end at a line's turn
 FRESH = 1  # seconds for which an answer shows that the program is alive
 PING = 5  # seconds in which it has to answer `chain`

@@ -16,7 +16,7 @@ from datetime import datetime, timezone
 from typing import Any, Callable, Deque, Dict, Generic, List, Optional, Sequence, Tuple, TypeVar
 
 from hub_limits import (
-    FRESH, LONGEST_FAULT, LONGEST_PAUSE, LONGEST_PAUSE_OF_MANY, MOST_ANSWER, MOST_CUSTOMERS, MOST_FAULTS, PATIENCE, PING, TURNS,
+    FRESH, KILLED_AFTER, LONGEST_FAULT, LONGEST_PAUSE, LONGEST_PAUSE_OF_MANY, MOST_ANSWER, MOST_CUSTOMERS, MOST_FAULTS, PING, TURNS,
 )
 
 T = TypeVar("T")
@@ -279,7 +279,7 @@ class Run(asyncio.SubprocessProtocol):
         """The program ends by itself: the answer counts as none, and the line keeps its turn."""
         self.flight.appendleft(flying)
         self.over = True
-        self.shop.loop.call_later(PATIENCE, self._send_kill)
+        self.shop.loop.call_later(KILLED_AFTER, self._send_kill)
 
     def _distrust(self, flying: Optional[Flying]) -> None:
         """An answer that isn't its line's: what it was meant for isn't known."""

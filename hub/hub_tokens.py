@@ -10,11 +10,10 @@ import stat
 import sys
 from typing import Dict, List, NamedTuple, Optional
 
-from hub_limits import LONGEST_TOKEN, SHORTEST_TOKEN
+from hub_limits import LONGEST_TOKEN, MOST_TILLS, SHORTEST_TOKEN
 from hub_shops import SHOP
 
 MODES = (0o600, 0o400)
-MOST_TILLS = 64
 
 TOKEN = re.compile(r"[!-~]{%d,%d}" % (SHORTEST_TOKEN, LONGEST_TOKEN))
 NUMBER = re.compile(r"[1-9]\d?", re.ASCII)

@@ -3,7 +3,7 @@
 
 const EVERY = 5000; // milliseconds from one look to the next
 const SUMS_EVERY = 30000; // milliseconds from one look at the sums to the next, at least
-const PATIENCE = 35000; // milliseconds until the hub counts as gone
+const GONE_AFTER = 35000; // milliseconds until the hub counts as gone
 const LATE = 600000; // milliseconds without a word of the agency after which what waits is marked
 
 const STATES = {
@@ -52,7 +52,7 @@ function show(id, isShown) {
 
 async function ask(path) {
   const stop = new AbortController();
-  const late = setTimeout(() => stop.abort(), PATIENCE);
+  const late = setTimeout(() => stop.abort(), GONE_AFTER);
   try {
     const answer = await fetch(new URL(path, location.origin + location.pathname), { signal: stop.signal, cache: "no-store" });
     if (answer.headers.get("Date")) now = new Date(answer.headers.get("Date"));

@@ -19,6 +19,8 @@ from datetime import datetime
 from urllib.parse import quote
 from zoneinfo import ZoneInfo
 
+from hub_limits import MOST_TILLS
+
 RATES = {"21": (2100, 0), "10": (1000, 0), "4": (400, 0), "0": (0, 0), "21+": (2100, 520), "10+": (1000, 140), "4+": (400, 50)}
 FREE = re.compile(r"(0[23]/)?(S2|N1|N2|E[1-6])")
 RATED = re.compile(r"0[23]/(0|[1-9]\d{0,3})")
@@ -220,7 +222,7 @@ class Serve:
     def command(self, verb, rest):
         if len(rest) < 3:
             raise Wrong("Fields")
-        till, serial = number(rest[0], "Till", 64, 1), number(rest[1], "Number", 2**32 - 1, 1)
+        till, serial = number(rest[0], "Till", MOST_TILLS, 1), number(rest[1], "Number", 2**32 - 1, 1)
         asked = {"till": till, "serial": serial, "customer": None, "rect": None, "refs": 0, "lines": []}
         if verb == "sale" and not re.fullmatch(r"[A-Za-z0-9/_]{1,20}", rest[2]):
             raise Wrong("Series")
@@ -330,12 +332,12 @@ class Serve:
         return self.chain.listing(asked) if asked <= len(self.chain.records) else f"record {asked} unknown"
 
     def serial(self, till, serial):
-        asked = number(till, "Till", 64, 1), number(serial, "Number", 2**32 - 1, 1)
+        asked = number(till, "Till", MOST_TILLS, 1), number(serial, "Number", 2**32 - 1, 1)
         place = self.chain.kept.get(asked)
         return self.chain.listing(place) if place else f"serial {asked[0]} {asked[1]} unknown"
 
     def last(self, till):
-        asked = number(till, "Till", 64, 1)
+        asked = number(till, "Till", MOST_TILLS, 1)
         return f"last {asked} {self.chain.serials.get(asked, 0)}"
 
     def lines(self, name, total):

@@ -28,7 +28,7 @@ from cluster_place import CLUSTER, HERE, MACHINES, Place, shops_of, text_of
 from test_cluster import COMMANDS, INSIDE, ClusterTill, in_namespaces, have_commands, sales_wrong
 
 FAULTS = ("kill", "stop", "pause", "cut")
-PATIENCE = 1_800  # seconds after which a guest is taken to hang
+HANGS_AFTER = 1_800  # seconds after which a guest is taken to hang
 PAUSE = 45
 OF_GUESTS = {"qemu-system-x86_64": "qemu-system-x86", "qemu-img": "qemu-utils", "busybox": "busybox-static", "mke2fs": "e2fsprogs"}
 MODULES = ("virtio_pci", "virtio_blk", "virtio_net", "crc32c_generic", "ext4", "drbd")
@@ -161,7 +161,7 @@ class Guests(Place):
 
     def do(self, number: int, line: str, given: bytes = b"") -> str:
         """A line of shell that has to end well."""
-        done = self.talk(number, line, given, PATIENCE)
+        done = self.talk(number, line, given, HANGS_AFTER)
         if done.returncode:
             raise AssertionError(f"n{number}: {line}: {done.returncode}: {done.stdout}")
         return done.stdout
@@ -179,16 +179,16 @@ class Guests(Place):
         self.do(1, FIRST, subprocess.run(["tar", "c", "-C", f"{self.shared}/g1", "."], stdout=subprocess.PIPE, check=True).stdout)
         self.do(1, "umount /srv/groups/g1 && drbdadm secondary g1")
         self.do(1, "cat >/root/cluster.crm", self.configuration().encode())
-        self.load("/root/cluster.crm", PATIENCE)
+        self.load("/root/cluster.crm", HANGS_AFTER)
 
     def wait_for(self, what: str, true: Any) -> None:
         """Until something is so."""
-        end = time.time() + PATIENCE
+        end = time.time() + HANGS_AFTER
         while time.time() < end:
             if true():
                 return
             time.sleep(2)
-        raise AssertionError(f"not within {PATIENCE} s: {what}")
+        raise AssertionError(f"not within {HANGS_AFTER} s: {what}")
 
     def owner(self) -> int:
         """The guest that has the whole group, where all is as it should be; else 0."""
@@ -225,7 +225,7 @@ class Disks:
 
     async def until(self, true: Any) -> bool:
         """Waits for something of the tills; False where that doesn't come."""
-        end = time.time() + PATIENCE
+        end = time.time() + HANGS_AFTER
         while time.time() < end and not all(map(true, self.tills)):
             await asyncio.sleep(0.5)
         return all(map(true, self.tills))
@@ -266,7 +266,7 @@ class Disks:
         wrong: List[str] = []
         for shop in shops_of(1):
             file = f"/srv/groups/g1/{shop}.chain"
-            audit = self.place.host(owner, "in", f"verifactu audit {file}", seconds=PATIENCE).stdout
+            audit = self.place.host(owner, "in", f"verifactu audit {file}", seconds=HANGS_AFTER).stdout
             if not audit.startswith("sound "):
                 wrong.append(f"{shop}: {audit}")
             records = [json.loads(line) for line in self.place.do(owner, f"verifactu export {file}").splitlines()][1:]

@@ -32,9 +32,9 @@ FIGURE = re.compile(r"^\| `(\w+)` \| (\d+) \|", re.M)
 
 
 def seconds(names: list[str]) -> dict[str, int]:
-    """What each crate's proof was seen to take, by bench/README.md; one that isn't there is taken as 20 seconds. The order alone rests on it."""
+    """What each crate's proof was seen to take, by bench/gate.txt; one that isn't there is taken as 20 seconds. The order alone rests on it."""
     try:
-        with open(os.path.join(ROOT, "bench", "README.md"), encoding="utf-8") as text:
+        with open(os.path.join(ROOT, "bench", "gate.txt"), encoding="utf-8") as text:
             seen = {name: int(figure) for name, figure in FIGURE.findall(text.read())}
     except OSError:
         seen = {}

@@ -7,9 +7,9 @@ use series::NumSerie;
 use statements::Period;
 
 // The most that `generate` and `check` take.
-const MOST_COMMANDS: u64 = 100_000;
+const MAX_GENERATED: u64 = 100_000;
 
-const MOST_WORKERS: u64 = 16;
+const MAX_WORKERS: u64 = 16;
 
 // How many pairs `many` has at least. It has `MAX_ISSUERS` at most.
 const FEWEST_PAIRS: usize = 2;
@@ -31,9 +31,9 @@ fn fits(place: Place, word: &str) -> bool {
         Place::Num => NumSerie::read(word).is_some(),
         Place::Host => word == "real" || word == "test",
         Place::Which => word == "all" || word == "waiting" || word == "refused",
-        Place::Workers => is_count(word, MOST_WORKERS),
+        Place::Workers => is_count(word, MAX_WORKERS),
         Place::Period => Period::read(word).is_some(),
-        Place::Count => is_count(word, MOST_COMMANDS),
+        Place::Count => is_count(word, MAX_GENERATED),
         Place::To | Place::From | Place::File | Place::New | Place::Nif => !word.is_empty(),
     }
 }

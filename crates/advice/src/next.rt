@@ -3,7 +3,7 @@ use report::Detail;
 use shop_core::Word;
 
 // What a line of a script has to be, where this word names its fault.
-fn wanted(word: Word) -> &'static str {
+fn sentence_of(word: Word) -> &'static str {
     match word {
         Word::Utf8 => "save the script as UTF-8 text",
         Word::Verb => {
@@ -54,7 +54,7 @@ fn wanted(word: Word) -> &'static str {
 /// What to do about an end whose text is a code. None where the device's own reason or nothing comes next.
 pub fn next_step(detail: &Detail) -> Option<&'static str> {
     match detail {
-        Detail::Script { fault, .. } => Some(wanted(*fault)),
+        Detail::Script { fault, .. } => Some(sentence_of(*fault)),
         Detail::Damaged { .. } => Some(
             "the file was left as it is: keep it, look at it with audit, and go on with a sound copy as OPERATING.md says under Restore",
         ),

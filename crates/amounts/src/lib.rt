@@ -1,4 +1,14 @@
 //! Amounts in cents, their texts, rates, and the tax of a base.
+//!
+//! - `cents`: amounts of money
+//! - `laws`: what holds of every amount
+//! - `rate`: rates of tax
+//! - `read`: reading an amount
+//! - `tax`: the tax of a base
+//! - `text`: how an amount is written
+//! - `whole`: reading a whole number
+//!
+//! Left to others: which tax a line has (`tax_lines`).
 #![tactic(auto)]
 
 mod cents;

@@ -1,4 +1,5 @@
-//! A history on disk: the state, the journal that keeps it, and the clock that dates its records.
+//! A history on disk: the state, the journal that keeps it, and the clock that dates its records. `keep` lends state
+//! and journal, apart, to that of `keeping`, to which a standby lends its own; it notes what was torn.
 ghost use Rattle.std.specs.Prelude.{◌≡◌, ◌≤◌, ◌+◌, ◌++◌, ◌∷◌, [], ◌↔◌, true, ℕ, length, take, drop};
 ghost use Rattle.std.specs.Prelude.{IsTrue, IfOk, OnOk, OnErr, IsErrOf, IsSome, None, Some};
 ghost use Rattle.record_codec.specs.Writing.{entry_bytes};

@@ -32,7 +32,7 @@ pub fn told_of(
     Ok(RunText { answers, listing })
 }
 
-fn answered(ask: &Ask, reply: &Result<Reply, StoreFault>) -> AnswerLine
+fn line_of(ask: &Ask, reply: &Result<Reply, StoreFault>) -> AnswerLine
     ensures { result ≡ spec.answered (ask.now, reply.now) }
 {
     AnswerLine::Answered {
@@ -57,7 +57,7 @@ fn answers_of(
         let [reply, more_told @ ..] = told else {
             return Ok(Answers::of(lines));
         };
-        lines.extend_from_slice(&[answered(ask, reply)])?;
+        lines.extend_from_slice(&[line_of(ask, reply)])?;
         asked = more_asked;
         told = more_told;
     }

@@ -1,4 +1,5 @@
-//! One line that was said.
+//! One line that was said. Each public call has a private one, whose clause is on its line alone: from that the public
+//! one's `continues`, on all lines before it, is proved.
 use crate::texts::{
     clock_text, meaning_text, too_long_text, unended_text, wrong_question_text, wrong_text,
 };

@@ -11,9 +11,9 @@ ghost use Rattle.file_commands.specs.Generate.{GenerateEnds, Generated, IsSummar
 ghost use Rattle.file_commands.specs.Generate as spec;
 ghost use Rattle.chain_store.specs.Replies.{AllReplied};
 ghost use Rattle.file_commands.specs.declared.generate.TheConstants.{START, STEP};
-ghost use Rattle.file_commands.specs.declared.generated.TheConstants.{MOST};
+ghost use Rattle.file_commands.specs.declared.generated.TheConstants.{MAX_GENERATED};
 
-use crate::generated::{MOST, commands};
+use crate::generated::{MAX_GENERATED, commands};
 use crate::output::print;
 use chain_disk::MemDisk;
 use chain_store::{Store, run_commands};
@@ -69,7 +69,7 @@ fn all_replied(replies: &[Result<Reply, StoreFault>]) -> bool
 
 // The history after the first n commands. A memory disk fails for lack of memory alone.
 fn generated(alloc: Global, n: u32) -> Result<State, NoMemory>
-    requires { n ≤ MOST }
+    requires { n ≤ MAX_GENERATED }
     ensures { IfOk result (λ state. Generated n state.entries) }
 {
     let asks = commands(alloc, n)?;
@@ -85,7 +85,7 @@ fn generated(alloc: Global, n: u32) -> Result<State, NoMemory>
 }
 
 fn summary(alloc: Global, n: u32) -> Result<Text, NoMemory>
-    requires { n ≤ MOST }
+    requires { n ≤ MAX_GENERATED }
     ensures { IfOk result (λ text. IsSummary n text) }
 {
     let state = generated(alloc, n)?;
@@ -93,7 +93,7 @@ fn summary(alloc: Global, n: u32) -> Result<Text, NoMemory>
 }
 
 fn generate<K: Sink>(alloc: Global, n: u32, sink: &mut K) -> Detail
-    requires { n ≤ MOST }
+    requires { n ≤ MAX_GENERATED }
     ensures { GenerateEnds n (this_sink K.taken K.faults sink.old sink.new) result }
 {
     match summary(alloc, n) {
@@ -104,7 +104,7 @@ fn generate<K: Sink>(alloc: Global, n: u32, sink: &mut K) -> Detail
 
 /// Runs the first n commands of the generator from the empty history on a memory disk, and prints the summary of the chain.
 pub fn generate_cmd<K: Sink>(alloc: Global, n: u32, sink: &mut K) -> Ended
-    requires { n ≤ MOST }
+    requires { n ≤ MAX_GENERATED }
     ensures status { result.status ≡ status_of result.detail }
     //= `generate` prints the summary of the chain that its first N commands make from the empty history, at its own
     //= readings of the clock.

@@ -2,7 +2,7 @@
 ghost use Rattle.std.specs.Prelude.{◌≡◌, ◌≤◌, IfOk, codes};
 ghost use Rattle.std.specs.Int.{IsInRange};
 ghost use Rattle.file_commands.specs.Generated as spec;
-ghost use Rattle.file_commands.specs.declared.generated.TheConstants.{MOST};
+ghost use Rattle.file_commands.specs.declared.generated.TheConstants.{MAX_GENERATED};
 
 use amounts::Cents;
 use invoice_kinds::Kind;
@@ -14,7 +14,7 @@ use std::alloc::Global;
 use tax_lines::{Breakdown, Class, LineKey, TaxLine};
 
 /// The most commands. The limit is this project's own.
-pub const MOST: u32 = 100_000;
+pub const MAX_GENERATED: u32 = 100_000;
 
 fn series() -> SeriesName
     ensures { result ≡ codes "G" }
@@ -26,7 +26,7 @@ fn series() -> SeriesName
 }
 
 fn draft(alloc: Global, i: u32) -> Result<Draft, NoMemory>
-    requires { IsInRange 1 MOST i }
+    requires { IsInRange 1 MAX_GENERATED i }
     ensures { IfOk result (λ draft. draft ≡ spec.draft i) }
 {
     let line = TaxLine {
@@ -46,7 +46,7 @@ fn draft(alloc: Global, i: u32) -> Result<Draft, NoMemory>
 }
 
 fn request(alloc: Global, i: u32) -> Result<Request, NoMemory>
-    requires { IsInRange 1 MOST i }
+    requires { IsInRange 1 MAX_GENERATED i }
     ensures { IfOk result (λ request. request ≡ spec.request i) }
 {
     let series = series();
@@ -59,7 +59,7 @@ fn request(alloc: Global, i: u32) -> Result<Request, NoMemory>
 }
 
 fn command(alloc: Global, i: u32) -> Result<Ask, NoMemory>
-    requires { IsInRange 1 MOST i }
+    requires { IsInRange 1 MAX_GENERATED i }
     ensures { IfOk result (λ ask. ask ≡ spec.command i) }
 {
     let request = request(alloc, i)?;
@@ -69,7 +69,7 @@ fn command(alloc: Global, i: u32) -> Result<Ask, NoMemory>
 
 /// The first n commands.
 pub fn commands(alloc: Global, n: u32) -> Result<Vec<Ask>, NoMemory>
-    requires { n ≤ MOST }
+    requires { n ≤ MAX_GENERATED }
     ensures { IfOk result (λ asks. spec.AreCommands n asks.items) }
 {
     let mut asks = Vec::new(alloc);

@@ -2,6 +2,13 @@
 //! of 1 to 4096 bytes. It counts where its gate is 1, and the next gate stands after it. `frame_bytes` writes what
 //! follows a gate, with the next one closed; `read_frame` says what stands at a gate, of a window that is the file from
 //! there on. Neither touches a disk.
+//!
+//! - `laws`: what holds of the frames' definitions alone
+//!
+//! `specs/Lengths.antt` has the lemmas on the four bytes of a length that layers above cite. `FRAME` (the longest body)
+//! and `WINDOW` (a whole frame) are here.
+//!
+//! Left to others: the file with its header, and what is written when (`journal`).
 #![tactic(auto)]
 
 ghost use Rattle.std.specs.Prelude.{◌≡◌, ◌<◌, ◌≤◌, ◌+◌, List, ℕ, [], ◌∷◌, ◌++◌, length, take};

@@ -30,7 +30,7 @@ pub fn link_of_a_sale<D: Disk>(
 {
     match load(alloc, disk)? {
         Loaded::NotBegun => Ok(None),
-        Loaded::Begun { state, .. } => match linked(alloc, &state, num, host) {
+        Loaded::Begun { state, .. } => match link_at(alloc, &state, num, host) {
             Ok(found) => Ok(found),
             Err(NoMemory) => Err(LoadFault::NoMemory),
         },
@@ -38,7 +38,7 @@ pub fn link_of_a_sale<D: Disk>(
 }
 
 // The link in a history.
-fn linked(
+fn link_at(
     alloc: Global,
     state: &State,
     num: &NumSerie,

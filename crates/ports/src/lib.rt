@@ -1,7 +1,20 @@
 //! What reaches the outside: a source of bytes, a sink of bytes, a clock, a sleeper and a gate. Each is a trait with
-//! its forms in memory, of which contracts say what they hold, and an adapter over the real thing, of which they
-//! say no more than its count of faults, a clock's last answer and a sleeper's moment. A call that fails answers `Failed` and raises the count, which stands still
-//! at the greatest u64; where a fault has a cause, it is that the count of a device that was handed in rose.
+//! its forms in memory, of which contracts say what they hold, and an adapter over the real thing, of which they say no
+//! more than its count of faults, a clock's last answer and a sleeper's moment. A call that fails answers `Failed` and
+//! raises the count, which stands still at the greatest u64; where a fault has a cause, it is that the count of a
+//! device that was handed in rose.
+//!
+//! - `adapters`: devices over the standard streams and the system's clock, which tell nothing of content
+//! - `faults`: the two faults that every layer knows
+//! - `gate`: what the threads of a day pass
+//! - `memory`: devices in memory, which tell what they hold
+//! - `reasons`: what an adapter keeps of the faults of the real thing
+//! - `sleeper`: a clock that waits, in memory and over the system's
+//!
+//! The memory forms tell all that they hold by a model `Held {bytes, failing, calls, faults}`. `reasons` is what an
+//! adapter keeps of its faults, and no contract speaks of it. Specs: `Causes` is a count of faults that rises.
+//!
+//! Left to others: disks (`chain_disk`) and agencies (`agency_port`).
 #![tactic(auto)]
 
 ghost use Rattle.std.specs.Prelude.{◌≡◌, ◌+◌, ◌-◌, ◌^◌, ◌≤◌, ℕ, Bool, IsTrue, List, Option};

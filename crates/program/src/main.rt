@@ -1,5 +1,12 @@
 //! The invoicing chain of a shop: hands the real devices and an agency, a practice one or one over two files, to
 //! `verifactu::run`, and prints why it failed, where it did.
+//!
+//! - `link`: the agency at the other end of two files, and whether they are such as one can be spoken with by
+//! - `option`: the option ahead of a command's words
+//! - `showing`: long work shows itself on a terminal: a file and a sleeper that say on standard error how far they are,
+//!   and are else those of `chain_disk` and `ports`
+//!
+//! Left to others: all that is promised of a run (`verifactu`).
 #![tactic(auto)]
 
 ghost use Rattle.std.specs.Prelude.{◌≡◌, IfOk, map, string_bytes, vec_len};

@@ -12,7 +12,7 @@ use std::sync::Wait;
 use std::time::{Duration, Instant};
 
 // Work of less than this many milliseconds shows nothing, and a line is written again after a fifth of it.
-const PATIENCE: u64 = 1000;
+const SHOWN_AFTER: u64 = 1000;
 
 const PAUSE: u64 = 200;
 
@@ -43,7 +43,7 @@ impl<'a> Line<'a> {
             None => now,
         };
         self.begun = Some(begun);
-        let is_long = now.duration_since(begun) >= Duration::from_millis(PATIENCE);
+        let is_long = now.duration_since(begun) >= Duration::from_millis(SHOWN_AFTER);
         let is_new = match self.last {
             Some(last) => now.duration_since(last) >= Duration::from_millis(PAUSE),
             None => true,

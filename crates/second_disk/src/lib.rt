@@ -1,5 +1,11 @@
-//! A shop's file and the same on a second disk, brought level before a run, and then written as one: whichever of the two is left
-//! goes on as the chain.
+//! A shop's file and the same on a second disk, brought level before a run, and then written as one: whichever of the
+//! two is left goes on as the chain.
+//!
+//! - `causes`: why a second file can't stand beside a first one
+//! - `levelling`: brings two files level
+//! - `opening`: opens both files, and begins those that aren't begun
+//!
+//! Left to others: both as one disk (`mirror_disk`), and the writing behind a gate (`journal`).
 #![tactic(auto)]
 
 mod causes;

@@ -1,4 +1,6 @@
-//! The tills of a shop and their sender, at the same time.
+//! The tills of a shop and their sender, at the same time. `with_sender` only lends: what a thread works on is moved to
+//! it and comes back, so the borrowed work goes in as a `Lent`, which calls it and gives the borrow back. `take_back`
+//! ties that borrow to the one that was lent; without it nothing is known of what the work left.
 ghost use Rattle.std.specs.Prelude.{◌≡◌};
 ghost use Rattle.sender.specs.Draining.{scene_of};
 ghost use Rattle.sender.specs.Sending.{fresh};

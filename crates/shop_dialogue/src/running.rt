@@ -1,4 +1,5 @@
-//! A dialogue with the tills of a shop, and a sender at the same time.
+//! A dialogue with the tills of a shop, and a sender at the same time. `answer_to_end` is the body of the tills'
+//! closure: a closure is proved where it stands, and a function by itself.
 ghost use Rattle.std.specs.Prelude.{◌≡◌, ◌≤◌, [], ℕ, List, Option, false, map, reverse, All, IsTrue, vec_capacity};
 ghost use Rattle.std.specs.List.{range_with_len};
 ghost use Rattle.dialogue_loop.specs.Speech.{ComesFirst, ComesOnce, EndsOnce, IsCause, clock_first, moment_of, moment_since};

@@ -7,7 +7,7 @@ use Rattle.amounts.proofs.TextLemmas.{whole_text-decimal}
 use Rattle.amounts.specs.Text.{whole_text}
 use Rattle.amounts.specs.declared.whole.TheConstants.{WHOLE_LIMIT}
 use Rattle.verifactu.specs.CommandLine.{IsCountOf}
-use Rattle.file_commands.specs.declared.generated.TheConstants.{MOST}
+use Rattle.file_commands.specs.declared.generated.TheConstants.{MAX_GENERATED}
 
 -- the number that was read is the one that the word says
 pub count_is : (word : List ℕ) (n m : ℕ) → n ≡ min (digits_value 10 word) WHOLE_LIMIT → IsCountOf word m → n ≡ m
@@ -18,7 +18,7 @@ count_is word n m value h =
     omega arith
 
 pub counted : (word : List ℕ) (n : ℕ) → whole_text (digits_value 10 word) ≡ word → n ≡ min (digits_value 10 word) WHOLE_LIMIT →
-    IsInRange 1 MOST n → IsCountOf word n
+    IsInRange 1 MAX_GENERATED n → IsCountOf word n
 counted word n text value range =
     let same : digits_value 10 word ≡ n = omega arith in
     record { range = range; written = sym text ∙ ap whole_text same ∙ whole_text-decimal n (omega arith) }

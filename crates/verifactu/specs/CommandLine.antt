@@ -18,7 +18,7 @@ use Rattle.verifactu.specs.declared.command_line.Command.TheVariants.{Chain, Day
 use Rattle.verifactu.specs.declared.command_line.Command.TheVariants.{Listing, Statement, Export, Matches, Generate, Help, HelpOn, Version}
 use Rattle.verifactu.specs.declared.topics.Topic.{Topic}
 use Rattle.verifactu.specs.Topics.{topic_name}
-use Rattle.file_commands.specs.declared.generated.TheConstants.{MOST}
+use Rattle.file_commands.specs.declared.generated.TheConstants.{MAX_GENERATED}
 use Rattle.parties.specs.declared.limits.TheConstants.{MAX_ISSUERS}
 
 -- `chain FILE NIF`: a file's name, which isn't empty, and a tax number
@@ -89,7 +89,7 @@ pub record IsList (words : List (List ℕ)) (choice : Choice) : Type 0 where
 
 -- a number of commands, from 1 to the most, in decimal without leading zeros
 pub record IsCountOf (word : List ℕ) (n : ℕ) : Type 0 where
-  pub range : IsInRange 1 MOST n
+  pub range : IsInRange 1 MAX_GENERATED n
   pub written : word ≡ decimal n
 
 -- the number of commands that a word says; none where it says none
@@ -272,7 +272,7 @@ IsGuarding _ = ⊥
 -- a command that words can ask for
 abbrev pub IsWithin : Command → Type 0
 IsWithin (Check workers) = IsInRange 1 MAX_WORKERS workers
-IsWithin (Generate n) = IsInRange 1 MOST n
+IsWithin (Generate n) = IsInRange 1 MAX_GENERATED n
 IsWithin _ = Unit {0}
 
 -- a command that hands what waits to its agency

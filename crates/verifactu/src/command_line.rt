@@ -8,7 +8,7 @@ use crate::nifs::Nifs;
 use crate::pairs::read_pairs;
 use crate::topics::{Topic, topic_of};
 use amounts::read_whole;
-use file_commands::MOST;
+use file_commands::MAX_GENERATED;
 use link_check::MAX_WORKERS;
 use parties::{MAX_ISSUERS, Nif};
 use report::Choice;
@@ -234,7 +234,7 @@ fn count_of(word: &str) -> Option<u32>
     if n < 1 {
         return None;
     }
-    if n > u64::from(MOST) {
+    if n > u64::from(MAX_GENERATED) {
         return None;
     }
     Some(n as u32)

@@ -1,4 +1,5 @@
-//! The program: one call does all that it does.
+//! The program: one call does all that it does. `obey_first` only takes the outside apart and puts it together again:
+//! so `run` has one arm, with one clause to prove, for all commands of the first file.
 ghost use Rattle.std.specs.Prelude.{◌≡◌, IsTrue, length, map, string_bytes};
 ghost use Rattle.ports.specs.Sinks.{this_sink};
 ghost use Rattle.ports.specs.Sources.{this_source};
@@ -35,16 +36,10 @@ use std::alloc::Global;
 use std::sync::Wait;
 use std::thread::Threads;
 
-/// Runs the command that the words are. `audit FILE` prints the verdict on the file, `link FILE NUM HOST` the link of an
-/// invoice and `list FILE WHICH` the listing of those records; `statement FILE MM-YYYY` prints the sums of a month or, of DD-MM-YYYY,
-/// a day, and `export FILE` the chain as lines of JSON: these read the disk alone. `check FILE WORKERS` is `check_cmd` and `matches FILE` `matches_cmd`, which read the source too. `chain FILE NIF` is
-/// `chain_cmd` for this issuer, `day FILE NIF` `day_cmd`, `drain FILE NIF` `drain_cmd`, and `serve FILE NIF` `serve_cmd`;
-/// `migrate FILE NEW` is `migrate_cmd`, `follow FILE NEW` `follow_cmd`, and `guard FILE NIF NEW` `guard_cmd`, whose new file is that
-/// of the one further post; `many FILE NIF FILE NIF ..` is `many_cmd` for these issuers, whose files are the first one and those of
-/// the further posts; `generate N` is `generate_cmd`, whose disk is its own; `--help`, `COMMAND --help` and `--version` print their texts. FILE
-/// itself is the caller's: it names the disk. The outside has as many further posts as `posts_needed` says of the words. All its
-/// parts come back. How each command ends is in `ends`; what every run keeps of the file, of its tills and of the agency, in
-/// `promise`.
+/// Runs the command that the words are, over the parts that it needs (docs/COMMANDS.md, Calls, has the table), and
+/// gives all parts back. FILE is the caller's, who names the disk by it, and so are the further posts, as many as
+/// `posts_needed` says of the words. How each command ends is in `ends`; what every run keeps of the file, of its tills
+/// and of the agency, in `promise`.
 pub fn run<S, K, D, C, Z, G, T, R>(
     rt: &R,
     alloc: Global,
