@@ -92,7 +92,8 @@ class Between:
     def __init__(self, words):
         self.chain = words[words.index("serve") + 1]
         self.notes, self.seed = Notes(self.chain), os.environ.get("SEED", "1")
-        self.program = subprocess.Popen(words, stdin=subprocess.PIPE, stdout=subprocess.PIPE)
+        # (Python ignores the signal XFSZ, and so has the program to: then a limit on the file's size is `fault disk`)
+        self.program = subprocess.Popen(words, stdin=subprocess.PIPE, stdout=subprocess.PIPE, restore_signals=False)
 
     def draw(self):
         """What becomes of the next command: the same of the same seed, however often the program was started meanwhile."""

@@ -31,7 +31,9 @@ class Shop:
         self.start()
 
     def start(self):
-        self.program = subprocess.Popen(self.words, stdin=subprocess.PIPE, stdout=subprocess.PIPE, encoding="utf-8")
+        # (Python ignores the signal XFSZ, and so has the program to: then a limit on the file's size is `fault disk`)
+        pipes = {"stdin": subprocess.PIPE, "stdout": subprocess.PIPE, "encoding": "utf-8"}
+        self.program = subprocess.Popen(self.words, restore_signals=False, **pipes)
         # (a till that names customers says them here, for a program that starts knows none)
         if "CLOCK" in os.environ:
             self.exchange("clock " + os.environ["CLOCK"])

@@ -18,6 +18,8 @@ pipes=$(mktemp -d)
 mkfifo "$pipes/to" "$pipes/from"
 trap 'rm -r "$pipes"' EXIT
 trap '' PIPE
+# (the program is to ignore this one too: then a limit on the file's size is `fault disk`)
+trap '' XFSZ
 
 start() {
     # The program must not hold the till's ends of the pipes, or its input never ends.

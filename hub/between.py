@@ -25,6 +25,8 @@ LIES = [
     Lie(False, 599, "application/json", "{}"),
     Lie(False, 200, "text/html", HTML.format("Welcome to this hotel")),
     Lie(False, 200, "application/json", "{}"),
+    Lie(False, 200, "application/json", '{"serial":1}'),
+    Lie(False, 404, "application/json", '{"record":{}}'),
     Lie(False, 302, "text/html", HTML.format("Sign in")),
     Lie(False, 400, "text/html", HTML.format("400 Bad Request")),
     Lie(False, 404, "text/html", HTML.format("404 Not Found")),

@@ -8,15 +8,21 @@ from __future__ import annotations
 import asyncio
 import socket
 import ssl
+from asyncio import sslproto
 from typing import Any, Awaitable, Callable, Dict, Optional
 
 from aiohttp import web
 from aiohttp.http_exceptions import BadHttpMessage
 
-from hub_limits import FAILURES_APART, HANDSHAKE, MOST_FIELD, MOST_HEAD, MOST_PIPELINED, WHOLE_ANSWER, WHOLE_REQUEST
+from hub_limits import (
+    FAILURES_APART, HANDSHAKE, MOST_FIELD, MOST_HEAD, MOST_PIPELINED, TLS_BUFFER, WHOLE_ANSWER, WHOLE_REQUEST,
+)
 from hub_pipe import tell
 
 NEVER_BY_AIOHTTP = 86_400.0  # aiohttp's own limit of silence, seconds: WHOLE_REQUEST comes first
+
+if hasattr(sslproto.SSLProtocol, "max_size"):  # from Python 3.11 on 262,144 bytes a connection
+    setattr(sslproto.SSLProtocol, "max_size", TLS_BUFFER)
 
 Handler = Callable[[web.BaseRequest], Awaitable[web.StreamResponse]]
 
@@ -130,12 +136,28 @@ class Connections(web.Server):
     async def _begin(self, accepted: socket.socket, context: Optional[ssl.SSLContext]) -> None:
         words: Any = {"ssl": context, "ssl_handshake_timeout": HANDSHAKE} if context else {}
         try:
+            if context and not await self._is_spoken_to(accepted):
+                accepted.close()
+                return
             await self.loop.connect_accepted_socket(self, accepted, **words)
         except (OSError, ValueError, asyncio.TimeoutError) as fault:  # an SSLError is an OSError
             if accepted in self.beginning:
                 tell(f"TLS: {getattr(fault, 'reason', None) or str(fault) or type(fault).__name__}")
         finally:
             self.beginning.pop(accepted, None)
+
+    async def _is_spoken_to(self, accepted: socket.socket) -> bool:
+        """Waits for the first byte, or the other side's end: until then a connection costs no TLS. False where it is over
+        before that."""
+        came: "asyncio.Future[None]" = self.loop.create_future()
+        self.loop.add_reader(accepted, _note, came)
+        try:
+            await asyncio.wait({came}, timeout=HANDSHAKE)
+        finally:
+            self.loop.remove_reader(accepted)
+        if not came.done():
+            tell(f"TLS: nothing came within {HANDSHAKE} seconds")
+        return came.done() and accepted in self.beginning
 
     def _make_room(self, most: int) -> None:
         """Closes one that is too many: the oldest before its handshake's end, else the one that has owed a request for longest."""
@@ -147,7 +169,7 @@ class Connections(web.Server):
             next(iter(self.owing)).drop()
 
     def _end_early(self, accepted: socket.socket) -> None:
-        """Ends a handshake. The socket is closed by its transport: another connection must not get its number before."""
+        """Ends a handshake. The socket is closed by who waits for it: another connection must not get its number before."""
         del self.beginning[accepted]
         self.closed_early += 1
         try:
@@ -193,3 +215,9 @@ class Connections(web.Server):
                 late = [connection for connection, since in watched.items() if now - since > most]
                 for connection in late:
                     connection.drop()
+
+
+def _note(came: "asyncio.Future[None]") -> None:
+    """Something came; it is told as long as nobody reads it."""
+    if not came.done():
+        came.set_result(None)

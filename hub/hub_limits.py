@@ -19,6 +19,7 @@ WHOLE_REQUEST = 75  # seconds until a request must have arrived; longer than mos
 WHOLE_ANSWER = 105  # seconds from there until its answer must have been made and taken
 MOST_PIPELINED = 16  # requests that were sent ahead of answers
 HANDSHAKE = 15  # seconds of TLS's handshake
+TLS_BUFFER = 16_384  # bytes that a connection over TLS holds to read into, ahead of its handshake too: a record of TLS has no more
 BACKLOG = 256  # connections that wait to be accepted; so many may be accepted before the ones that are too many are closed
 SPARE_HANDLES = 64  # file handles beside one a connection
 

@@ -378,7 +378,7 @@ class Shop:
         try:
             await self.loop.subprocess_exec(
                 lambda: Run(self), *self.words, stdin=asyncio.subprocess.PIPE, stdout=asyncio.subprocess.PIPE,
-                stderr=asyncio.subprocess.PIPE, start_new_session=True, preexec_fn=_die_with_the_hub)
+                stderr=asyncio.subprocess.PIPE, start_new_session=True, preexec_fn=_before_the_program)
         except OSError as fault:
             self.reason = f"the program can't be started: {fault.strerror}"
             tell(f"{self.words[0]}: {fault.strerror}", self.name)
@@ -456,9 +456,11 @@ class Shop:
             self._end()
 
 
-def _die_with_the_hub() -> None:
-    """In the child: where the hub is killed the program is killed too, so that the next hub finds the file unlocked."""
+def _before_the_program() -> None:
+    """In the child: where the hub is killed the program is killed too, so that the next hub finds the file unlocked;
+    and at a limit on the file's size a write fails, and no signal ends the program."""
     _libc.prctl(1, signal.SIGKILL)
+    signal.signal(signal.SIGXFSZ, signal.SIG_IGN)
 
 
 def tell(text: str, name: str = "") -> None:

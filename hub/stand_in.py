@@ -7,6 +7,7 @@ killed at any moment. Its agency takes what waits every PAUSE seconds. By enviro
   STAND_IN_VERDICTS  "A-1 1 vet 3000, A-2 1 warn 200", as agency.py's: of the n-th record of an invoice
   STAND_IN_SLEEP     seconds that each command takes beside its sync
 """
+import errno
 import fcntl
 import hashlib
 import json
@@ -170,7 +171,7 @@ class Serve:
 
     def __init__(self, chain):
         self.chain, self.customers, self.count = chain, {}, 0
-        self.ended = False
+        self.ended = None  # the fault of the disk by which it ends
 
     def answer(self, raw, is_ended):
         """The answer to one line, or None where it has none."""
@@ -291,8 +292,8 @@ class Serve:
         record["huella"] = hashlib.sha256((before + json.dumps(record)).encode()).hexdigest().upper()
         try:
             chain.append(record)
-        except OSError:
-            self.ended = True
+        except OSError as fault:
+            self.ended = fault
             return "fault disk"
         return f"taken {len(chain.records)} {num} {record['huella']}"
 
@@ -365,11 +366,20 @@ class Agency:
         if self.pause is None or time.monotonic() < self.due or not waiting:
             return
         self.due = time.monotonic() + self.pause
-        self.chain.append({"noted": [self.verdict(place) for place in waiting]})
+        try:
+            self.chain.append({"noted": [self.verdict(place) for place in waiting]})
+        except OSError as fault:
+            sys.exit(disk_fault(self.chain.path, fault))
 
     def verdict(self, place):
         num = self.chain.records[place - 1]["num"]
         return self.verdicts.get((num, self.chain.by_num[num].index(place) + 1), "correcto")
+
+
+def disk_fault(path, fault):
+    reason = "no space left" if fault.errno == errno.ENOSPC else "input or output error"
+    sys.stderr.write(f"verifactu: disk fault\nverifactu: {path}: {reason}\n")
+    return 6
 
 
 def serve(path, issuer):
@@ -388,8 +398,7 @@ def serve(path, issuer):
             say(dialogue, line, True)
         agency.note()
     if dialogue.ended:
-        sys.stderr.write(f"verifactu: disk fault\nverifactu: {path}: no space left\n")
-        return 6
+        return disk_fault(path, dialogue.ended)
     if rest:
         say(dialogue, rest, False)
     while agency.pause is not None and len(chain.lines) < len(chain.records):

@@ -105,6 +105,7 @@ class HandshakeTest(unittest.TestCase):
             for line in lines:
                 line.close()
         self.assertLess(handles, 700)
+        self.assertLess(hub.memory(), 100_000)
         self.sells(hub, 21)
         self.assertNotIn("Traceback", "\n".join(hub.log))
         told = [line for line in hub.log if "TLS" in line]

@@ -6,7 +6,9 @@ import os
 import shutil
 import signal
 import subprocess
+import time
 import unittest
+from concurrent.futures import ThreadPoolExecutor
 from typing import Any, Dict, List
 
 from test_clients import CLIENTS
@@ -57,7 +59,9 @@ class GoodTest(Trial):
     def run_tills(self, client: str, sales: int) -> List[Any]:
         """Runs four tills to their ends: each one's status, and what it printed."""
         tills = [self.start(client, till, sales) for till in TILLS]
-        return [(told, process.returncode) for process in tills for told in [process.communicate(timeout=60 + 3 * sales)]]
+        with ThreadPoolExecutor() as pool:  # all are read at the same time, so that none waits for a full pipe
+            told = list(pool.map(lambda process: process.communicate(timeout=60 + 3 * sales), tills))
+        return [(said, process.returncode) for said, process in zip(told, tills)]
 
     def try_client(self, client: str) -> None:
         """All sales stand once, and over the older copy nothing is sold."""
@@ -97,6 +101,45 @@ class GoodTest(Trial):
 
     def test_java(self) -> None:
         self.try_client("java")
+
+
+# of each fate: the statuses that its command may be answered with (0: no answer), and whether it is done
+FATES: Dict[str, Any] = {
+    "plain": ((201,), True), "lost": ((0,), True), "cut": ((0,), False), "unavailable": ((503,), True),
+    "busy": ((503,), False), "proxy": ((502,), True), "killed": ((200, 201), True), "late": ((201,), True),
+}
+
+
+class FateTest(Trial):
+    """Each thing that may become of a command."""
+
+    def ask(self, serial: int) -> int:
+        """A sale that is asked once: the status of its answer."""
+        try:
+            answer = self.hub.ask("POST", "/v1/sales", self.place.till[1], {**SALE, "serial": serial})
+        except (OSError, http.client.HTTPException):
+            return 0
+        self.assertEqual(answer.headers["content-type"] == "text/html; charset=utf-8", answer.status == 502)
+        return answer.status
+
+    def test_each_fate_is_what_the_page_says(self) -> None:
+        self.begin(1194)  # which draws each of them among the first 22
+        before, drawn = self.faults()["fates"], set()
+        for serial in range(1, 23):
+            began = time.monotonic()
+            status, seconds = self.ask(serial), time.monotonic() - began
+            after = self.faults()["fates"]
+            fate = next(name for name in after if after[name] > before[name])
+            before = after
+            drawn.add(fate)
+            with self.subTest(fate):
+                stands = self.hub.ask("GET", f"/v1/records?serial={serial}", self.place.till[1]).status == 200
+                statuses, is_done = FATES[fate]
+                self.assertIn(status, statuses)
+                self.assertEqual(stands, is_done)
+                self.assertTrue(5 <= seconds < 45 if fate == "late" else seconds < 30, seconds)
+        self.assertEqual(drawn, set(FATES))
+        until(lambda: self.hub.state()["starts"] == 2, "the program was killed once, and started again")
 
 
 class BadTest(Trial):

@@ -19,6 +19,7 @@ from typing import Any, Dict, List, Optional, Tuple
 
 import tills
 from test_clients import CLIENTS
+from test_requests import Description
 from tills import Till
 from trying import HERE, NIF, PATIENCE, PYTHON, Agency, Answer, Hub, Options, Street, run_program, until
 
@@ -109,6 +110,21 @@ class WhoTest(Hosting):
             self.assertIn(self.sell(hub, "a", 1, prefix=prefix).status, (200, 201))
         self.assertFalse(os.path.exists(street.file("b")))
         self.assertEqual(hub.ask("GET", "/shops/b/v1/last", "x" * 40).status, 401)
+
+    def test_what_a_hub_of_many_answers_is_described(self) -> None:
+        hub = self.hub(self.street("a", "b"))
+        description = Description(hub.ask("GET", "/v1/openapi.json").json)
+        till, owner, host = hub.place.till["a", 1], hub.place.owner["a"], hub.place.host
+        asked: Any = (("/shops/a", "/", owner, 308), ("/shops/a/", "/", owner, 200), ("/shops/b/", "/", owner, 403),
+                      ("/shops/a/v1/state", "/v1/state", owner, 200), ("/shops/a/v1/last", "/v1/last", till, 200),
+                      ("/shops/b/v1/last", "/v1/last", till, 403), ("/health", "/health", "", 200),
+                      ("/shops/a/health", "/health", "", 200), ("/shops/nobody/health", "/health", "", 404),
+                      ("/shops/nobody/v1/openapi.json", "/v1/openapi.json", "", 404), ("/metrics", "/metrics", host, 200),
+                      ("/metrics", "/metrics", owner, 403), ("/shops/a/v1/faults", "/v1/faults", owner, 404))
+        for path, described, token, status in asked:
+            with self.subTest(path):
+                answer = hub.ask("GET", path, token)
+                self.assertEqual((answer.status, description.fault("GET", described, answer)), (status, None), answer.body)
 
     def test_answers_keep_the_prefix_that_the_request_had(self) -> None:
         hub = self.hub(self.street("a"))

@@ -507,6 +507,18 @@ class DescriptionTest(OverAHub):
                 self.assertEqual(answer.status, 200, answer.body)
                 self.fits(answer.json, content["schema"])
 
+    def test_a_faulty_body_is_400_and_described_on_every_path(self) -> None:
+        description = Description(self.api)
+        for path, methods in self.api["paths"].items():
+            for method in {"get", "post"} & set(methods) if path not in ELSEWHERE else ():
+                filled, query = self.fill(path, methods[method].get("parameters", []))
+                is_tills = method == "post" or path in ("/v1/last", "/v1/records")
+                with self.subTest(path):
+                    token, headers = self.place.till[3] if is_tills else self.place.owner, {"Content-Encoding": "gzip"}
+                    answer = self.hub.ask(method.upper(), filled + query, token, b"x", headers=headers)
+                    self.is_problem(answer, 400, "bad-request")
+                    self.assertIsNone(description.fault(method.upper(), filled, answer))
+
     def test_what_may_be_null_says_of_which_type_it_is_else(self) -> None:
         def parts(value: Any) -> Iterator[Any]:
             yield value
@@ -640,6 +652,8 @@ class Description:
             return "the status isn't described"
         content = self.resolve(responses[str(answer.status)]).get("content", {})
         kind = answer.headers.get("content-type", "").partition(";")[0]
+        if not content and not answer.body:
+            return None
         if kind not in content:
             return f"the content {kind} isn't described"
         return None if method == "HEAD" or "json" not in kind else self.misfit(content[kind]["schema"], answer.json)

@@ -274,6 +274,27 @@ class DiskTest(Running):
         self.assertEqual([row[2] for row in self.rows()], [f"T1-{number}" for number in range(1, serial + 1)])
         self.is_sound()
 
+    def test_a_limit_on_the_files_size_is_a_fault_of_the_disk_and_its_reason_is_told(self) -> None:
+        limited = os.path.join(self.place.path, "limited")
+        with open(limited, "w", encoding="utf-8") as file:  # it ends by the signal at once, unless that is ignored
+            file.write(f'#!/bin/sh\nkill -s XFSZ $$\nulimit -f 20\nexec {Options.program} "$@"\n')
+        os.chmod(limited, 0o700)
+        hub = self.hub(program=limited)
+        serial, answer = 1, hub.sell(1, 1)
+        while answer.status == 201 and serial < 2_000:
+            serial += 1
+            answer = hub.sell(1, serial)
+        self.assertEqual((answer.status, answer.name), (503, "unavailable"))
+        self.assertGreater(serial, 5)
+        self.assertTrue(hub.logged(r"shop\.chain: input or output error$"), hub.log)
+        self.assertFalse(hub.logged(f"ended with status {128 + signal.SIGXFSZ}"), hub.log)
+        hub.end()
+        hub = self.hub()
+        self.assertIn(hub.sell(1, serial).json["answer"], ("taken", "again"))
+        hub.stop()
+        self.assertEqual([row[2] for row in self.rows()], [f"T1-{number}" for number in range(1, serial + 1)])
+        self.is_sound()
+
 
 class SlowTest(Running):
     """Connections that are silent, or send a byte a second, and tills beside them."""

@@ -3,6 +3,7 @@ from __future__ import annotations
 
 import asyncio
 import json
+import ssl
 import time
 from typing import Any, Dict, List, Optional, Tuple
 
@@ -10,11 +11,13 @@ Sold = Tuple[int, str, str]  # place, number, HUELLA
 
 
 class Till:
-    """A till with one keep-alive connection. `times` are the seconds of each answered sale, `repeats` how often one was asked again; `prefix`
-    stands in front of its path, where it is that of one of many shops."""
+    """A till with one keep-alive connection. `times` are the seconds of each answered sale, `repeats` how often one was
+    asked again; `prefix` stands in front of its path, where it is that of one of many shops; `tls` is there where the
+    hub has a certificate, that of the host `shop`."""
 
-    def __init__(self, port: int, number: int, token: str, address: str = "127.0.0.1", prefix: str = "") -> None:
-        self.address, self.port, self.number = address, port, number
+    def __init__(self, port: int, number: int, token: str, address: str = "127.0.0.1", prefix: str = "",
+                 tls: Optional[ssl.SSLContext] = None) -> None:
+        self.address, self.port, self.number, self.tls = address, port, number, tls
         self.head = f"POST {prefix}/v1/sales HTTP/1.1\r\nHost: hub\r\nAuthorization: Bearer {token}\r\nContent-Type: application/json\r\nContent-Length: "
         self.sold: Dict[int, Sold] = {}
         self.times: List[float] = []
@@ -52,7 +55,8 @@ class Till:
 
     async def _request(self, body: str) -> Tuple[int, bytes]:
         if self.writer is None:
-            self.reader, self.writer = await asyncio.open_connection(self.address, self.port)
+            words: Any = {"ssl": self.tls, "server_hostname": "shop"} if self.tls else {}
+            self.reader, self.writer = await asyncio.open_connection(self.address, self.port, **words)
         assert self.reader is not None
         self.writer.write(f"{self.head}{len(body)}\r\n\r\n{body}".encode())
         head = (await self.reader.readuntil(b"\r\n\r\n")).lower()

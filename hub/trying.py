@@ -233,6 +233,11 @@ class Hub:
         except ProcessLookupError:
             pass
 
+    def memory(self) -> int:
+        """The hub's greatest memory so far, in kilobytes."""
+        with open(f"/proc/{self.process.pid}/status", encoding="utf-8") as status:
+            return next(int(line.split()[1]) for line in status if line.startswith("VmHWM"))
+
     def stop(self, number: int = signal.SIGTERM) -> int:
         """Stops it by a signal, and gives its status."""
         self.process.send_signal(number)

@@ -42,8 +42,8 @@ public class Till {
         HttpResponse<String> answer;
         try { answer = CLIENT.send(asked, HttpResponse.BodyHandlers.ofString()); } catch (IOException none) { return null; }
         String text = answer.body();
-        boolean isSale = answer.statusCode() < 300 && !find(text, "(\"(?:record|serial)\":)").isEmpty();
-        if (text.startsWith("{") && (isSale || !find(text, "\"type\": ?\"(urn:verifactu:)").isEmpty())) return answer;
+        boolean isWanted = answer.statusCode() < 300 && !find(text, "(\"" + (body.isEmpty() ? "serial" : "record") + "\":)").isEmpty();
+        if (text.startsWith("{") && (isWanted || !find(text, "\"type\": ?\"(urn:verifactu:)").isEmpty())) return answer;
         if (answer.statusCode() < 500) System.err.println("something between till and hub answers " + answer.statusCode() + ": " + text.substring(0, Math.min(80, text.length()))); // for a person
         return null;
     }

@@ -27,10 +27,10 @@ function keep(changes) {
 }
 
 // What an answer says, or null where it isn't the hub's: then nothing is known.
-function read(status, text) {
+function read(status, text, wanted) {
   try {
     const told = JSON.parse(text);
-    if (String(told.type).startsWith("urn:verifactu:") || (status < 300 && ("serial" in told || "record" in told))) return [status, told];
+    if (String(told.type).startsWith("urn:verifactu:") || (status < 300 && wanted in told)) return [status, told];
   } catch { /* no JSON */ }
   if (status < 500) console.error(`something between till and hub answers ${status}: ${text.slice(0, 80)}`); // for a person
   return null;
@@ -43,7 +43,7 @@ function askOnce(method, to, body, isCut) {
     const asked = request(hub + to, { method, headers, timeout: 40000, agent: false }, (answer) => {
       let text = "";
       answer.on("data", (data) => { text += data; });
-      answer.on("end", () => resolve(answer.complete ? read(answer.statusCode, text) : null));
+      answer.on("end", () => resolve(answer.complete ? read(answer.statusCode, text, body ? "record" : "serial") : null));
       answer.on("error", () => resolve(null));
     });
     asked.on("timeout", () => asked.destroy());

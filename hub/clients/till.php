@@ -39,7 +39,7 @@ final class Till
         $status = (int) (explode(' ', $http_response_header[0])[1] ?? 0);
         $told = json_decode($text, true);
         $isProblem = is_array($told) && str_starts_with((string) ($told['type'] ?? ''), 'urn:verifactu:');
-        if ($isProblem || (is_array($told) && $status < 300 && (isset($told['serial']) || isset($told['record'])))) return [$status, $told];
+        if ($isProblem || (is_array($told) && $status < 300 && isset($told[$body === '' ? 'serial' : 'record']))) return [$status, $told];
         if ($status < 500) fwrite(STDERR, "something between till and hub answers $status: " . substr($text, 0, 80) . "\n"); // for a person
         return null;
     }

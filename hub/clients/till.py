@@ -57,7 +57,8 @@ class Till:
             told = json.loads(text)
         except ValueError:
             told = None
-        if isinstance(told, dict) and (str(told.get("type")).startswith("urn:verifactu:") or status < 300 and "serial" in told or "record" in told):
+        wanted = "serial" if body is None else "record"
+        if isinstance(told, dict) and (str(told.get("type")).startswith("urn:verifactu:") or status < 300 and wanted in told):
             return status, told
         if status < 500:
             print(f"something between till and hub answers {status}: {text[:80]!r}", file=sys.stderr)  # for a person
