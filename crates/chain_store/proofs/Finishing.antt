@@ -19,7 +19,7 @@ use Rattle.shop_core.specs.Answer.Replies.ChainRun.{begun}
 use Rattle.shop_core.specs.declared.answer.Reply.{Reply}
 use Rattle.shop_core.specs.Prefix.{IsPrefix}
 use Rattle.chain_store.specs.Crashes.{IsCutOff, KeptByRun, StandsUpTo, StandsForEnd}
-use Rattle.chain_store.specs.Losing.{none_lost_by}
+use Rattle.chain_store.specs.Losing.{NeverLoses, none_lost_by}
 use Rattle.chain_store.specs.Readings.{IsComing}
 use Rattle.chain_store.specs.Replies.{AllGoOn, IsGoingOn, StopsByFault, StopsOnce}
 use Rattle.chain_store.specs.Progress.{Origin, Point, Progress, SoFar}
@@ -99,8 +99,8 @@ KeptSoFar o asks replies p = KeptByRun (StandsUpTo o.version o.issuer o.start p.
 kept_by : (stopped : Option ℕ) (o : Origin) (asks : List Asked) (replies : List (Result Reply StoreFault)) (p : Point) (gate : ℕ)
     → p.history.issuer ≡ o.issuer → p.history.version ≡ o.version → Progress o asks replies p stopped →
     Legal p.history.version p.history.issuer p.history.entries → (stopped ≡ None → IsTrue o.tells → Holds p.history gate p.now) →
-    IsImage p.now.now p.now.content → IsTrue o.tells → KeptSoFar o asks replies p
-kept_by None o asks replies p gate own version g legal holds image tells =
+    IsImage p.now.now p.now.content → IsTrue o.tells → NeverLoses o.since p.now → KeptSoFar o asks replies p
+kept_by None o asks replies p gate own version g legal holds image tells stays =
     let h = holds refl tells in
     let here = stands_here o p gate own version legal h in
     record {
@@ -110,11 +110,12 @@ kept_by None o asks replies p gate own version g legal holds image tells =
       made = tt;
       kept = record {
         each_moment = g.only tells;
+        never_loses = stays;
         every_crash = leaves_now p.now (StandsForEnd o.version o.issuer p.history.entries []) h.file.nothing_pending (inl here);
         reads = inl here;
       };
     }
-kept_by (Some count) o asks replies p gate own version g legal holds image tells =
+kept_by (Some count) o asks replies p gate own version g legal holds image tells stays =
     let left = g.left tells in
     record {
       torn = left.torn;
@@ -123,6 +124,7 @@ kept_by (Some count) o asks replies p gate own version g legal holds image tells
       made = left.made;
       kept = record {
         each_moment = left.only;
+        never_loses = stays;
         every_crash = left.here;
         reads = left.here p.now.content (inl (refl, image));
       };
@@ -133,4 +135,4 @@ pub kept : (o : Origin) (asks : List Asked) (replies : List (Result Reply StoreF
     (p.stopped ≡ None → IsTrue o.tells → Holds p.history gate p.now) → IsImage p.now.now p.now.content → IsTrue o.tells →
     KeptSoFar o asks replies p
 kept o asks replies p gate h legal holds image tells =
-    kept_by p.stopped o asks replies p gate h.own h.version h.progress legal holds image tells
+    kept_by p.stopped o asks replies p gate h.own h.version h.progress legal holds image tells (h.never_loses tells)

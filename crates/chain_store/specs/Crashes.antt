@@ -12,6 +12,7 @@ use Rattle.shop_core.specs.File.Files.{StandsFor}
 use Rattle.shop_core.specs.Answer.Plans.{answer}
 use Rattle.shop_core.specs.Answer.Requests.{Asked}
 use Rattle.shop_core.specs.declared.answer.Planned.TheVariants.{Made}
+use Rattle.chain_store.specs.Losing.{NeverLoses}
 use Rattle.chain_store.specs.Replies.{Replies, AllGoOn}
 
 -- the file stands for a legal history that begins with this one and is a front of that one
@@ -43,11 +44,12 @@ pub record IsCutOff (version : Version) (issuer : List ℕ) (IsReading : Replies
   pub reading : IsReading before seconds
   pub made : answer version issuer history ask seconds ≡ Made entry
 
--- Since some moment each crash leaves a file with P; now it leaves the history at the end, or that with the torn entry, and so
--- reads the disk.
+-- Since some moment each crash leaves a file with P, and what was made sure of at any moment stays; now it leaves the history at
+-- the end, or that with the torn entry, and so reads the disk.
 pub record SurvivesCrashes (P : List ℕ → Type 0) (version : Version) (issuer : List ℕ) (end torn : List Entry) (since now : OnDisk) :
     Type 0 where
   pub each_moment : LeavesOnly since now P
+  pub never_loses : NeverLoses since now
   pub every_crash : LeavesNow now (StandsForEnd version issuer end torn)
   pub reads : StandsForEnd version issuer end torn now.content
 

@@ -1,7 +1,7 @@
 -- What was made sure of stays: a history that every file which a crash may leave at one moment begins with.
-use Rattle.std.specs.Prelude.{◌≡◌, ℕ, List, ◌++◌, take}
-use Rattle.std.proofs.Common.{subst, sym}
-use Rattle.chain_disk.specs.OnDisk.{OnDisk, IsImage, IsRun, IsSyncFailed, StillLeaves, settled, synced}
+use Rattle.std.specs.Prelude.{◌≡◌, ◌≤◌, ℕ, List, ◌++◌, take}
+use Rattle.std.proofs.Common.{arith, subst, sym}
+use Rattle.chain_disk.specs.OnDisk.{OnDisk, IsImage, IsRun, IsSyncFailed, StillLeaves, moment, settled, synced}
 use Rattle.chain_disk.specs.Stays.{call_run, no_run, none_still, run_follows, runs_still, sync_failed_run, sync_failed_still, sync_still}
 use Rattle.journal.specs.File.{closing_gate}
 use Rattle.record_fields.specs.declared.versions.Version.{Version}
@@ -34,6 +34,14 @@ none_lost_in_both t u v first second = record {
   run = run_follows t u v first.run second.run;
   stays = λ version issuer entries bytes. runs_still t u v (StandsOn version issuer entries bytes) first.run second.run
       (first.stays version issuer entries bytes) (second.stays version issuer entries bytes);
+}
+
+-- nor does the later part of such a run
+pub none_lost_since : (t u v : OnDisk) → NeverLoses t v → moment t ≤ moment u → IsRun u v → NeverLoses u v
+none_lost_since t u v all late run = record {
+  run = run;
+  stays = λ version issuer entries bytes m next since on within leaves. all.stays version issuer entries bytes m next
+      (omega (arith, late, since)) on within leaves;
 }
 
 -- a sync loses nothing

@@ -8,6 +8,7 @@ use Rattle.chain_disk.specs.OnDisk.{OnDisk, LeavesOnly, synced}
 use Rattle.journal.specs.File.{IsNotBegun, IsNotBegunOrEmpty}
 use Rattle.chain_store.specs.declared.causes.OpenCause.{OpenCause}
 use Rattle.chain_store.specs.declared.causes.OpenCause.TheVariants as cause
+use Rattle.chain_store.specs.Losing.{NeverLoses}
 use Rattle.journal.specs.declared.faults.StoreFault.{StoreFault}
 use Rattle.journal.specs.declared.faults.StoreFault.TheVariants.{DiskFault, Stopped, NoMemory}
 use Rattle.ports.specs.declared.faults.Failed.{Failed}
@@ -82,13 +83,15 @@ keeps_file issuer cause.NoMemory old new h = as_it_stood issuer old new h
 -- an opening that failed, by what it answers
 pub not_opened : {D : Type 0} {issuer : List ℕ} {left : Type 0} {s : Sinks} {k : Disks D} {end : Detail} (why : OpenCause) →
     end ≡ opening_end why → (why ≡ cause.DiskFault → DiskRose k) →
-    (IsTrue k.tells → IsLeftUnopened issuer why (k.on_disk k.disk) (k.on_disk k.disk_after)) → WroteNothing s → left →
+    (IsTrue k.tells → IsLeftUnopened issuer why (k.on_disk k.disk) (k.on_disk k.disk_after)) →
+    (IsTrue k.tells → NeverLoses (k.on_disk k.disk) (k.on_disk k.disk_after)) → WroteNothing s → left →
     NotOpened issuer left s k end
-not_opened {D} {issuer} {left} {s} {k} {end} why ends risen left_by wrote rest = record {
+not_opened {D} {issuer} {left} {s} {k} {end} why ends risen left_by stays wrote rest = record {
   why = why;
   ends = ends;
   risen = risen;
   left_by = left_by;
+  never_loses = stays;
   every_crash = λ says. keeps_file issuer why (k.on_disk k.disk) (k.on_disk k.disk_after) (left_by says);
   wrote = wrote;
   rest = rest;
@@ -102,6 +105,7 @@ not_opened_by f h = record {
   ends = h.ends;
   risen = h.risen;
   left_by = h.left_by;
+  never_loses = h.never_loses;
   every_crash = h.every_crash;
   wrote = h.wrote;
   rest = f h.rest;

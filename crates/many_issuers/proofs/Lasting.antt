@@ -31,6 +31,7 @@ use Rattle.agency_port.specs.Ledger.{Begins}
 use Rattle.sender.specs.Turning.{AgencyKind, AgencyState}
 use Rattle.sender.specs.declared.answers.DrainFault.TheVariants as drain
 use Rattle.chain_store.specs.Crashes.{IsCutOff, SurvivesCrashes, KeptByRun, StandsForEnd, StandsUpTo}
+use Rattle.chain_store.specs.Losing.{none_lost_in_both}
 use Rattle.chain_store.specs.Replies.{AllGoOn, Replies}
 use Rattle.shop_drain.specs.Opening.{IsUnbegun}
 use Rattle.shop_drain.specs.Crashes.{StandsSince}
@@ -94,6 +95,7 @@ module _ (held : List ℕ) (version : Version) (issuer : List ℕ) (start middle
       record {
         each_moment = follows first half now (StandsSince held version issuer start middle []) (StandsUpTo version issuer middle end torn)
             (StandsSince held version issuer start end torn) each behind.each_moment since_commands since_drain;
+        never_loses = none_lost_in_both first half now before.kept.never_loses behind.never_loses;
         every_crash = behind.every_crash;
         reads = behind.reads;
       }

@@ -171,7 +171,7 @@ module _ {D C Z G : Type 0} (d : disk.Ghosts D) (c : clock.Ghosts C) (z : sleepe
           (state_of now).entries a.replies) (d.on_disk s.post.disk).content (state_of first).version s.issuer (state_of first).entries
           (state_of now).entries a.replies
           (synced (d.on_disk s.post.disk)) (d.on_disk (disk_of (journal_of first))) (d.on_disk (disk_of (journal_of now))) answers.begins
-          (a.opened.any_moment says) (answers.kept says);
+          (a.opened.any_moment says) (a.opened.never_loses says) (answers.kept says);
       clock = subst (λ (x : C). IsAsked (this_clock c.coming s.post.clock x) (readings a.replies)) (sym w.clock_is) answers.asked;
     }
 

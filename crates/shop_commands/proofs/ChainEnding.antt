@@ -20,6 +20,7 @@ use Rattle.shop_core.specs.Answer.Replies.{ChainRun}
 use Rattle.shop_core.specs.Answer.Replies.ChainRun.{begun, replied}
 use Rattle.shop_core.specs.declared.answer.Reply.{Reply}
 use Rattle.chain_store.specs.Crashes.{FailsIn, IsCutOff, KeptByRun, StandsUpTo}
+use Rattle.chain_store.specs.Losing.{NeverLoses}
 use Rattle.command_ends.specs.Printed.{printed}
 use Rattle.chain_store.specs.Readings.{IsComing, IsAsked, LeavesClock, readings, readings_of}
 use Rattle.chain_store.specs.Replies.{StopsOnce, is_disk_fault}
@@ -52,10 +53,11 @@ pub store_ran : {D C : Type 0} (issuer : List ℕ) (asks : List Asked) (replies 
     s.tells ≡ k.tells → s.faults_after ≡ k.faults k.disk_after → s.now ≡ k.on_disk k.disk_after → k.faults k.disk ≤ s.faults →
     (IsTrue k.tells → IsFound s.version issuer s.start (k.on_disk k.disk).content) →
     (IsTrue k.tells → LeavesOnly (synced (k.on_disk k.disk)) s.since (IsFoundSince (k.on_disk k.disk).content s.version issuer s.start)) →
+    (IsTrue k.tells → NeverLoses (synced (k.on_disk k.disk)) s.since) →
     ((v : Version) (n : List ℕ) (es : List Entry) → FailsIn s.disk v n es → FailsIn k v n es) → Answers asks replies s →
     RunEnds replies (printed asks replies s.end) sink end → ScriptEnds issuer asks (s.clock.coming s.clock.clock)
     (λ rs. IsAsked s.clock (readings rs)) sink k end
-store_ran issuer asks replies s sink k end own tells faults_after now later found any widen h ends =
+store_ran issuer asks replies s sink k end own tells faults_after now later found any stays widen h ends =
     let Torn : List ℕ → Entry → Type 0 = λ n. IsCutOff s.version n (IsComing (s.clock.coming s.clock.clock)) asks s.end replies in
     let kept_here : IsTrue k.tells → KeptByRun (StandsUpTo s.version issuer s.start s.end) (Torn issuer) s.version issuer s.end replies s.since
     (k.on_disk k.disk_after) = λ says.
@@ -80,7 +82,7 @@ store_ran issuer asks replies s sink k end own tells faults_after now later foun
         fails = or_so (λ f. widen s.version issuer s.end (subst (λ (n : List ℕ). FailsIn s.disk s.version n s.end) own f)) h.fails;
         kept = λ says. kept_since (Torn issuer) (k.on_disk k.disk).content s.version issuer s.start s.end replies (synced (k.on_disk
             k.disk)) s.since
-            (k.on_disk k.disk_after) h.begins (any says) (kept_here says);
+            (k.on_disk k.disk_after) h.begins (any says) (stays says) (kept_here says);
         clock = h.asked;
       },
       ends,

@@ -6,6 +6,7 @@ use Rattle.chain_disk.specs.Disks.{Disks, this_disk}
 use Rattle.chain_disk.specs.OnDisk.{IsImage, LeavesOnly, OnDisk, synced}
 use Rattle.chain_disk.specs.Runs.{follows}
 use Rattle.chain_store.specs.Crashes.{StandsBetween}
+use Rattle.chain_store.specs.Losing.{NeverLoses, none_lost_in_both}
 use Rattle.chain_store.specs.Opening.{IsFound, IsOnlySynced}
 use Rattle.ports.specs.Causes.{Rose}
 use Rattle.record_codec.specs.declared.entry.Entry.{Entry}
@@ -49,12 +50,13 @@ pub not_started : {D : Type 0} (tells : Bool) (on_disk : D → OnDisk) (faults :
     (issuer : List ℕ) (history : List Entry) (why : StandbyCause) (end : Detail) → end ≡ start_end why →
     (IsTrue tells → IsImage (on_disk disk).now (on_disk disk).content) →
     (IsTrue tells → IsLeftUnstarted version issuer why (on_disk disk) (on_disk left)) →
-    (why ≡ cause.DiskFault → Rose (faults disk) (faults left)) → faults disk ≤ faults left →
-    LeftUncopied version issuer history (this_disk tells on_disk faults disk left) end
-not_started tells on_disk faults disk left version issuer history why end is reads kept rose later = record {
+    (why ≡ cause.DiskFault → Rose (faults disk) (faults left)) → (IsTrue tells → NeverLoses (on_disk disk) (on_disk left)) →
+    faults disk ≤ faults left → LeftUncopied version issuer history (this_disk tells on_disk faults disk left) end
+not_started tells on_disk faults disk left version issuer history why end is reads kept rose stays later = record {
   why = subst (λ (e : Detail). IsUncopied version issuer history (this_disk tells on_disk faults disk left) e) (sym is)
       (unstarted_why tells on_disk faults disk left version issuer history why kept rose);
   images = λ says. unstarted version issuer history (on_disk disk) (reads says) why (on_disk left) (kept says);
+  never_loses = stays;
   later = later;
 }
 
@@ -65,6 +67,7 @@ module _ {D : Type 0} (tells : Bool) (on_disk : D → OnDisk) (faults : D → �
     (any : IsTrue tells → LeavesOnly (synced (on_disk disk)) (on_disk first.disk) (IsFound version version issuer first.history.entries))
     (later : faults disk ≤ faults first.disk) (neither : NotBegunIsNeither)
     (unwritten : IsTrue tells → IsOnlySynced (on_disk disk) (on_disk first.disk))
+    (stays : IsTrue tells → NeverLoses (on_disk disk) (on_disk first.disk))
     (reads : IsTrue tells → IsImage (on_disk disk).now (on_disk disk).content) where
   abbrev Image : List ℕ → Type 0
   Image c = IsFollowImage version issuer history (on_disk disk) c
@@ -101,6 +104,8 @@ module _ {D : Type 0} (tells : Bool) (on_disk : D → OnDisk) (faults : D → �
     entries_are = entries;
     going_on = going;
     any_moment = λ says. on_from says then.disk (follows_it.images says);
+    never_loses = λ says. none_lost_in_both (on_disk disk) (on_disk first.disk) (on_disk then.disk) (stays says)
+        (follows_it.never_loses says);
     later = omega (arith, later, more);
   }
 
@@ -143,6 +148,10 @@ module _ {D : Type 0} (tells : Bool) (on_disk : D → OnDisk) (faults : D → �
     images_of says (inl same) = subst (λ (d : D). LeavesOnly (on_disk disk) (on_disk d) Image) (sym same) (opening says)
     images_of says (inr h) = on_from says left (h.1 says)
 
+    stays_of : IsTrue tells → LeftOrFollowed tells on_disk history first left → NeverLoses (on_disk disk) (on_disk left)
+    stays_of says (inl same) = subst (λ (d : D). NeverLoses (on_disk disk) (on_disk d)) (sym same) (stays says)
+    stays_of says (inr h) = none_lost_in_both (on_disk disk) (on_disk first.disk) (on_disk left) (stays says) (h.2 says)
+
     -- it wasn't
     pub not_brought : (end : Detail) → BringsUp tells on_disk faults version issuer history first left (Err end) →
         LeftOrFollowed tells on_disk history first left → faults first.disk ≤ faults left →
@@ -150,6 +159,7 @@ module _ {D : Type 0} (tells : Bool) (on_disk : D → OnDisk) (faults : D → �
     not_brought end why kept more = record {
       why = why_of end why;
       images = λ says. images_of says kept;
+      never_loses = λ says. stays_of says kept;
       later = omega (arith, later, more);
     }
 

@@ -14,6 +14,7 @@ use Rattle.report.specs.declared.status.Detail.{Detail}
 use Rattle.report.specs.declared.status.Detail.TheVariants as detail
 use Rattle.shop_drain.specs.Crashes.{IsFoundSince, StandsSince}
 use Rattle.chain_store.specs.Clocks.{Clocks, LeftClock}
+use Rattle.chain_store.specs.Losing.{NeverLoses}
 use Rattle.shop_drain.specs.Devices.{Agencies, LeftSleeper, Sleepers, first_moment, tells_moment}
 use Rattle.shop_drain.specs.Draining.{AgreesAtStart, DiskSpan, Outcome, Span, StoreDrains, spanning}
 use Rattle.shop_commands.specs.Drain.{AllLeft, FileDrainEnds, FileDrained, LeavesTime, NothingRose, ScriptDrainEnds, file_span}
@@ -91,7 +92,8 @@ file_rose issuer left plan exact moment s k a end (inr h) is = drain_rose issuer
 pub opened_drained : {D G : Type 0} (issuer own : List ℕ) (version : Version) (plan : Plan) (exact : Bool) (moment : ℕ)
     (s : Sinks) (k : Disks D) (a : Agencies G) (start : List Entry) (since : OnDisk) (between : ℕ) (end : Detail) → own ≡ issuer →
     (IsTrue k.tells → IsFound version issuer start (k.on_disk k.disk).content) → (IsTrue k.tells → LeavesOnly (synced (k.on_disk k.disk)) since
-    (IsFoundSince (k.on_disk k.disk).content version issuer start)) → k.faults k.disk ≤ between →
+    (IsFoundSince (k.on_disk k.disk).content version issuer start)) → (IsTrue k.tells → NeverLoses (synced (k.on_disk k.disk)) since) →
+    k.faults k.disk ≤ between →
     StoreDrainEnds a.begun plan version own start (record {
       tells = k.tells;
       since = since;
@@ -100,7 +102,7 @@ pub opened_drained : {D G : Type 0} (issuer own : List ℕ) (version : Version) 
       faults_after = k.faults k.disk_after;
     }) a.kind a.before a.after exact moment s end →
     FileDrained issuer plan exact moment s k a end
-opened_drained issuer own version plan exact moment s k a start since between end same found any later h =
+opened_drained issuer own version plan exact moment s k a start since between end same found any stays later h =
     let at : DiskSpan = record {
       tells = k.tells;
       since = since;
@@ -111,7 +113,7 @@ opened_drained issuer own version plan exact moment s k a start since between en
     let e = subst (λ (n : List ℕ). StoreDrainEnds a.begun plan version n start at a.kind a.before a.after exact moment s end) same h in
     let d : Span = spanning start a.kind a.before a.after exact moment e.0 in
     file_drained version issuer plan exact moment s k a start e.0 (since_opening a.begun plan version issuer at d (synced (k.on_disk k.disk))
-    (k.on_disk k.disk).content (k.faults k.disk) e.1 any later) end found e.2
+    (k.on_disk k.disk).content (k.faults k.disk) e.1 any stays later) end found e.2
 
 module _ {D C Z G : Type 0} (issuer : List ℕ) (script : Script) (s : Sinks) (k : Disks D) (t : Clocks C) (z : Sleepers Z)
     (a : Agencies G) (end : Detail) where

@@ -5,6 +5,7 @@ use Rattle.chain_disk.specs.Disks.{DiskRose, Disks, this_disk}
 use Rattle.chain_disk.specs.OnDisk.{OnDisk, IsImage, IsSyncFailed, LeavesNow, LeavesOnly, synced}
 use Rattle.chain_disk.specs.Runs.{Reached, follows, on_sync, on_sync_failed, settled_image, started, weaker}
 use Rattle.chain_store.specs.Crashes.{StandsBetween}
+use Rattle.chain_store.specs.Losing.{NeverLoses}
 use Rattle.chain_store.specs.Opening.{IsBegunInPart, IsDiskLost, IsFound, IsOnlySynced}
 use Rattle.chain_store.specs.Opening.IsDiskLost.{not_synced, not_read, in_part}
 use Rattle.chain_store.specs.declared.causes.LoadFault.{LoadFault}
@@ -296,6 +297,7 @@ followed_since tells on_disk history old new disk within same f = inr (
   λ says.
       subst (λ (d : _). LeavesOnly (on_disk old.disk) (on_disk d)
       (StandsBetween old.history.version old.history.issuer old.history.entries history)) (sym same) (f.images says),
+  λ says. subst (λ (d : _). NeverLoses (on_disk old.disk) (on_disk d)) (sym same) (f.never_loses says),
 )
 
 -- what is left of a copy that was only read

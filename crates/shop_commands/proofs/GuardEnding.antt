@@ -8,6 +8,7 @@ use Rattle.chain_disk.specs.OnDisk.{IsImage, LeavesNow, LeavesOnly, OnDisk, sync
 use Rattle.chain_disk.specs.Runs.{follows}
 use Rattle.chain_store.specs.Clocks.{Clocks, LeftClock}
 use Rattle.chain_store.specs.Crashes.{StandsUpTo}
+use Rattle.chain_store.specs.Losing.{NeverLoses, none_lost_in_both}
 use Rattle.chain_store.specs.Opening.{IsFound as IsCopyFound}
 use Rattle.ports.specs.Causes.{Rose}
 use Rattle.ports.specs.Sinks.{Sinks, WroteNothing}
@@ -61,7 +62,8 @@ further_image version issuer history longer t c more (image_front copy found b) 
 -- what a drain leaves of one of the two, said since an earlier moment
 chain_since : (P Q : List Entry → List Entry → List Entry → List ℕ → Type 0) (Found : List ℕ → Type 0) (version : Version)
     (issuer : List ℕ) (start : List Entry) (h : Held) (k : DiskSpan) (d : Span) (first : OnDisk) (faults : ℕ) →
-    ChainDrained P version issuer start h k d → (IsTrue k.tells → LeavesOnly first k.since Found) → faults ≤ k.faults →
+    ChainDrained P version issuer start h k d → (IsTrue k.tells → LeavesOnly first k.since Found) →
+    (IsTrue k.tells → NeverLoses first k.since) → faults ≤ k.faults →
     (IsTrue k.tells → (c : List ℕ) → Found c → Q start h.entries h.torn c) →
     (IsTrue k.tells → (c : List ℕ) → P start h.entries h.torn c → Q start h.entries h.torn c) →
     ChainDrained Q version issuer start h (record {
@@ -71,7 +73,7 @@ chain_since : (P Q : List Entry → List Entry → List Entry → List ℕ → T
       faults = faults;
       faults_after = k.faults_after;
     }) d
-chain_since P Q Found version issuer start h k d first faults c found early early_is late_is = record {
+chain_since P Q Found version issuer start h k d first faults c found stays early early_is late_is = record {
   notes = c.notes;
   said = c.said;
   legal = c.legal;
@@ -79,6 +81,7 @@ chain_since P Q Found version issuer start h k d first faults c found early earl
   kept = λ says. let kept = c.kept says in record {
     each_moment = follows first k.since k.now Found (P start h.entries h.torn) (Q start h.entries h.torn) (found says)
         kept.each_moment (early_is says) (late_is says);
+    never_loses = none_lost_in_both first k.since k.now (stays says) kept.never_loses;
     every_crash = kept.every_crash;
     reads = kept.reads;
   };
@@ -178,24 +181,24 @@ module _ {D G : Type 0} (issuer : List ℕ) (version : Version) (plan : Plan) (e
 
     pub opened_guarded : (end : Detail) → (IsTrue k.tells → IsFound version issuer start (k.on_disk k.disk).content) →
         (IsTrue k.tells → LeavesOnly (synced (k.on_disk k.disk)) since (IsFoundSince (k.on_disk k.disk).content version issuer start))
-        → k.faults k.disk ≤ between →
+        → (IsTrue k.tells → NeverLoses (synced (k.on_disk k.disk)) since) → k.faults k.disk ≤ between →
         (IsTrue l.tells → IsCopyFound version version issuer copy (l.on_disk l.disk).content) → IsPrefix copy start →
         (IsTrue l.tells → LeavesOnly (l.on_disk l.disk) since_copy (IsFollowImage version issuer start (l.on_disk l.disk))) →
-        l.faults l.disk ≤ between_copy →
+        (IsTrue l.tells → NeverLoses (l.on_disk l.disk) since_copy) → l.faults l.disk ≤ between_copy →
         GuardDrains (StandsUpTo version issuer) (StandsUpTo version issuer) a.begun plan version issuer file_now copy_now span file
         own → DrainRunEnds o.answer (drain_text o.turns file.entries) s end → FileGuarded issuer plan exact moment s k l a end
-    opened_guarded end found any later copied front copy_any copy_later h ends =
+    opened_guarded end found any stays later copied front copy_any copy_stays copy_later h ends =
         file_guarded (record {
           session = h.session;
           shop = chain_since (StandsUpTo version issuer) (StandsSince (k.on_disk k.disk).content version issuer)
               (IsFoundSince (k.on_disk k.disk).content version issuer start) version issuer
-              start file file_now span (synced (k.on_disk k.disk)) (k.faults k.disk) h.shop any later
+              start file file_now span (synced (k.on_disk k.disk)) (k.faults k.disk) h.shop any stays later
               (λ says c here. since_found (k.on_disk k.disk).content version issuer start file.entries file.torn c
               (record { rest = h.shop.notes.more; is = h.shop.notes.is }) here)
               (λ says c here. inr here);
           standby = chain_since (StandsUpTo version issuer) (GuardImage version issuer (l.on_disk l.disk))
               (IsFollowImage version issuer start (l.on_disk l.disk)) version issuer start own copy_now span (l.on_disk l.disk)
-              (l.faults l.disk) h.standby copy_any copy_later
+              (l.faults l.disk) h.standby copy_any copy_stays copy_later
               (λ says c image. further_image version issuer start (own.entries ++ own.torn) (l.on_disk l.disk) c
               (drained_front h.standby.notes) image)
               (λ says c b. image_front copy (copied says) (record {
@@ -244,8 +247,8 @@ module _ {D C G : Type 0} (issuer : List ℕ) (plan : Plan) (exact : Bool) (mome
       (IsFoundSince (kind.on_disk disk).content p.state.version n p.state.entries)) (sym opened.issuer_is) opened.any_moment in
       subst (λ (n : List ℕ). FileGuarded n plan exact moment s file_in copy_in a end) opened.issuer_is
       (opened_guarded p.state.issuer p.state.version plan exact moment s file_in copy_in a p.state.entries copied.copy o file own
-      (kind.on_disk p.disk) (kind.on_disk standby.disk) (kind.faults p.disk) (kind.faults standby.disk) end found any opened.later
-      copied.found copied.front copied.any_moment copied.later drains ends)
+      (kind.on_disk p.disk) (kind.on_disk standby.disk) (kind.faults p.disk) (kind.faults standby.disk) end found any opened.never_loses
+      opened.later copied.found copied.front copied.any_moment copied.never_loses copied.later drains ends)
 
   pub not_copied : {left : Type 0} → after ≡ p.disk → (IsTrue kind.tells → IsImage (kind.on_disk after).now (kind.on_disk after).content) →
       LeftUncopied p.state.version p.state.issuer p.state.entries copy_in end → WroteNothing s → left →
@@ -256,6 +259,7 @@ module _ {D C G : Type 0} (issuer : List ℕ) (plan : Plan) (exact : Bool) (mome
     found = opened.found;
     any_moment = λ says. subst (λ (d : D). LeavesOnly (synced (kind.on_disk disk)) (kind.on_disk d)
         (IsFoundSince (kind.on_disk disk).content p.state.version issuer p.state.entries)) (sym same) (opened.any_moment says);
+    never_loses = λ says. subst (λ (d : D). NeverLoses (synced (kind.on_disk disk)) (kind.on_disk d)) (sym same) (opened.never_loses says);
     every_crash = left_now;
     reads = λ says. left_now says (kind.on_disk after).content (inl (refl, image says));
     later = subst (λ (d : D). kind.faults disk ≤ kind.faults d) (sym same) opened.later;
@@ -295,6 +299,7 @@ not_copied_by f h = record {
   start = h.start;
   found = h.found;
   any_moment = h.any_moment;
+  never_loses = h.never_loses;
   every_crash = h.every_crash;
   reads = h.reads;
   later = h.later;

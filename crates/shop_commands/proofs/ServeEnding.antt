@@ -9,6 +9,7 @@ use Rattle.agency_rules.specs.Plans.{plain}
 use Rattle.chain_disk.specs.Disks.{DiskRose, this_disk}
 use Rattle.chain_disk.specs.OnDisk.{IsImage, LeavesNow, LeavesOnly, synced}
 use Rattle.chain_store.specs.Clocks.{Clocks, LeftClock, this_clock}
+use Rattle.chain_store.specs.Losing.{NeverLoses}
 use Rattle.chain_store.specs.Readings.{readings_of}
 use Rattle.chain_store.specs.Replies.{Replies, is_disk_fault, is_no_memory}
 use Rattle.dialogue_loop.specs.Speech.{AreRepliesOf, ComesFirst, ComesOnce, EndsOnce, IsRead, IsWritten, Moment}
@@ -337,6 +338,7 @@ opened_with {D} {C} {O} h coming issuer disk old new same_state same_disk o = re
       (subst (λ (v : History). LeavesOnly (synced (h.on_disk disk)) (h.on_disk old.disk) (IsFoundSince (h.on_disk disk).content
       v.version issuer v.entries)) (sym same_state)
       (o.any_moment says));
+  never_loses = λ says. subst (λ (d : D). NeverLoses (synced (h.on_disk disk)) (h.on_disk d)) (sym same_disk) (o.never_loses says);
   every_crash = λ says.
       subst (λ (d : D). LeavesNow (h.on_disk d) (StandsFor new.state.version issuer new.state.entries)) (sym same_disk)
       (subst (λ (v : History). LeavesNow (h.on_disk old.disk) (StandsFor v.version issuer v.entries)) (sym same_state) (o.every_crash says));

@@ -34,6 +34,7 @@ use Rattle.sender_session.specs.Sessions.{SessionSteps}
 use Rattle.sender_beside.specs.Behind.{DrainsBehind}
 use Rattle.sender_beside.specs.Beside.{SendsBeside, StaysAgreed}
 use Rattle.chain_store.specs.Crashes.{SurvivesCrashes, StandsUpTo, StandsForEnd}
+use Rattle.chain_store.specs.Losing.{none_lost_in_both}
 use Rattle.shop_drain.specs.Crashes.{IsFoundSince, StandsSince}
 use Rattle.shop_commands.specs.Day.{EachCrash, EachTillOf, HistoryGoesOn, ItsAgency, NotServed, Outcome, StepsOf, TellsOfSender}
 use Rattle.shop_commands.specs.Day.{day_with}
@@ -162,6 +163,7 @@ module _ {D C Z G : Type 0} (h : StoreKind D C) (issuer : List ℕ) (asks : List
               opened.state.version issuer first) (StandsSince (h.on_disk disk).content opened.state.version issuer first first
               []) (is_opened.any_moment says) (λ c here. since_found (h.on_disk disk).content opened.state.version issuer first first
               [] c begins here);
+          never_loses = is_opened.never_loses says;
           every_crash = λ c left. inl (is_opened.every_crash says c left);
           reads = inl (is_opened.every_crash says (h.on_disk opened.disk).content (inl (refl, reads opened.disk says)));
         });
@@ -248,6 +250,8 @@ module _ {D C Z G : Type 0} (h : StoreKind D C) (issuer : List ℕ) (asks : List
           (torn_of day.stop)) opened.state.version issuer r.new.state.entries
           (torn_of day.stop) (synced (h.on_disk disk)) (h.on_disk d)) (sym r.disk) (record {
             each_moment = moments says;
+            never_loses = none_lost_in_both (synced (h.on_disk disk)) (h.on_disk opened.disk) (h.on_disk r.new.disk)
+                (is_opened.never_loses says) (r.run.sound.crashes says).never_loses;
             every_crash = files says;
             reads = files says (h.on_disk r.new.disk).content (inl (refl, reads r.new.disk says));
           });

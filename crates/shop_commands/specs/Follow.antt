@@ -3,6 +3,7 @@ use Rattle.std.specs.Prelude.{◌≡◌, ◌⊎◌, ◌+◌, ◌≤◌, ℕ, Lis
 use Rattle.chain_disk.specs.Disks.{DiskRose, Disks}
 use Rattle.chain_disk.specs.OnDisk.{IsImage, LeavesNow, LeavesOnly, OnDisk, synced}
 use Rattle.chain_store.specs.Crashes.{StandsBetween}
+use Rattle.chain_store.specs.Losing.{NeverLoses}
 use Rattle.chain_store.specs.Opening.{IsFound}
 use Rattle.chain_store.specs.declared.causes.LoadFault.{LoadFault}
 use Rattle.chain_store.specs.declared.causes.LoadFault.TheVariants as load
@@ -100,12 +101,14 @@ BringsUp tells on_disk faults version issuer history old disk (Err end) =
     ⊎ ((end ≡ detail.DiskFault) × Rose (faults old.disk) (faults disk))
     ⊎ (end ≡ detail.NoMemory)
 
--- no call of its disk was made; or it is a front of this history, and each crash since leaves one that begins with it
+-- no call of its disk was made; or it is a front of this history, each crash since leaves one that begins with it, and what was made
+-- sure of at any moment stays
 abbrev pub LeftOrFollowed : {D : Type 0} → Bool → (D → OnDisk) → List Entry → ChainOnDisk D → D → Type 0
 LeftOrFollowed tells on_disk history old disk =
     (disk ≡ old.disk)
     ⊎ (IsPrefix old.history.entries history × (IsTrue tells → LeavesOnly (on_disk old.disk) (on_disk disk)
-    (StandsBetween old.history.version old.history.issuer old.history.entries history)))
+    (StandsBetween old.history.version old.history.issuer old.history.entries history))
+    × (IsTrue tells → NeverLoses (on_disk old.disk) (on_disk disk)))
 
 -- a file that isn't damaged
 abbrev pub IsUndamaged : List ℕ → Type 0

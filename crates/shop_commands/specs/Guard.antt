@@ -4,6 +4,7 @@ use Rattle.agency_rules.specs.declared.plans.Plan.{Plan}
 use Rattle.chain_disk.specs.Disks.{DiskRose, Disks, LeftDisk}
 use Rattle.chain_disk.specs.OnDisk.{LeavesNow, LeavesOnly, OnDisk, synced}
 use Rattle.chain_store.specs.Clocks.{Clocks, LeftClock}
+use Rattle.chain_store.specs.Losing.{NeverLoses}
 use Rattle.chain_store.specs.Opening.{IsFound as IsCopyFound}
 use Rattle.ports.specs.Sinks.{Sinks, WroteNothing}
 use Rattle.record_codec.specs.declared.entry.Entry.{Entry}
@@ -48,6 +49,7 @@ whole_span l = record {
 }
 
 -- The copy has the whole history of the file. It had a front of it, and each crash since the start leaves what following may leave.
+-- What was made sure of at any moment stays.
 pub record IsCopied {D : Type 0} (tells : Bool) (on_disk : D → OnDisk) (faults : D → ℕ) (version : Version) (issuer : List ℕ)
     (history : List Entry) (disk : D) (standby : ChainOnDisk D) : Type 0 where
   pub copy : List Entry
@@ -59,6 +61,7 @@ pub record IsCopied {D : Type 0} (tells : Bool) (on_disk : D → OnDisk) (faults
   pub going_on : standby.stopped ≡ None
   pub any_moment : IsTrue tells →
       LeavesOnly (on_disk disk) (on_disk standby.disk) (IsFollowImage version issuer history (on_disk disk))
+  pub never_loses : IsTrue tells → NeverLoses (on_disk disk) (on_disk standby.disk)
   pub later : faults disk ≤ faults standby.disk
 
 -- How a sound copy isn't of the history that the file stands for: issuer or version differ (0); or it has an entry, of this number
@@ -83,22 +86,24 @@ pub data IsUncopied {D : Type 0} (version : Version) (issuer : List ℕ) (histor
   disk_fault : DiskRose l → IsUncopied version issuer history l detail.DiskFault
   no_memory : IsUncopied version issuer history l detail.NoMemory
 
--- it wasn't, and what each crash since the start leaves of it
+-- it wasn't, and what each crash since the start leaves of it; what was made sure of at any moment stays
 pub record LeftUncopied {D : Type 0} (version : Version) (issuer : List ℕ) (history : List Entry) (l : Disks D) (end : Detail) :
     Type 0 where
   pub why : IsUncopied version issuer history l end
   pub images : IsTrue l.tells →
       LeavesOnly (l.on_disk l.disk) (l.on_disk l.disk_after) (IsFollowImage version issuer history (l.on_disk l.disk))
+  pub never_loses : IsTrue l.tells → NeverLoses (l.on_disk l.disk) (l.on_disk l.disk_after)
   pub later : l.faults l.disk ≤ l.faults l.disk_after
 
 -- The file was opened, its copy wasn't brought up to it, nothing was printed, and the rest wasn't touched. The file stands for the
--- history that it stood for, and so does each that a crash leaves.
+-- history that it stood for, and so does each that a crash leaves. What was made sure of at any moment since the opening's sync stays.
 pub record NotCopied {D : Type 0} (issuer : List ℕ) (left : Type 0) (s : Sinks) (k l : Disks D) (end : Detail) : Type 0 where
   pub version : Version
   pub start : List Entry
   pub found : IsTrue k.tells → IsFound version issuer start (k.on_disk k.disk).content
   pub any_moment : IsTrue k.tells →
       LeavesOnly (synced (k.on_disk k.disk)) (k.on_disk k.disk_after) (IsFoundSince (k.on_disk k.disk).content version issuer start)
+  pub never_loses : IsTrue k.tells → NeverLoses (synced (k.on_disk k.disk)) (k.on_disk k.disk_after)
   --= Where `guard` couldn't bring NEW up, each crash leaves the history that was found in the file.
   --= No body: it is of `open`
   pub every_crash : IsTrue k.tells → LeavesNow (k.on_disk k.disk_after) (StandsFor version issuer start)

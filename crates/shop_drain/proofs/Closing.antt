@@ -30,6 +30,7 @@ use Rattle.sender.specs.declared.draining.TheConstants.{MAX_LINK_FAULTS}
 use Rattle.sender.specs.Draining.{is_link}
 use Rattle.sender.specs.Turning.{AgencyKind, AgencyState}
 use Rattle.chain_store.specs.Crashes.{StandsBetween, StandsUpTo, StandsForEnd}
+use Rattle.chain_store.specs.Losing.{NeverLoses, none_lost_in_both}
 use Rattle.shop_drain.specs.Crashes.{IsFoundSince, StandsSince}
 use Rattle.shop_drain.specs.Draining.{AddsNotesAlone, AgreesInFile, Beginning, DiskSpan, OpensSession, IsSession, IsUnopened}
 use Rattle.shop_drain.specs.Draining.{Outcome, Sends, Span, StillAgrees, StoreDrains, from_agency_state, noted_pairs, spanning, torn_in}
@@ -114,6 +115,7 @@ module _ {D C : Type 0} (tells : Bool) (on_disk : D → OnDisk) (faults : D → 
         linked = linked p0.state.version p0.state.issuer p1.state.entries s.legal;
         kept = λ says. record {
           each_moment = weaker (on_disk p0.disk) (on_disk p1.disk) _ _ (s.crashes says).since between;
+          never_loses = (s.crashes says).never_loses;
           every_crash = λ c left. either c ((s.crashes says).whole c left);
           reads = either (on_disk p1.disk).content ((s.crashes says).whole (on_disk p1.disk).content (inl (refl, image says)));
         };
@@ -138,6 +140,7 @@ pub since_opening : (begun : Beginning) (plan : Plan) (version : Version) (issue
     (first : OnDisk) (held : List ℕ) (faults : ℕ) →
     StoreDrains (StandsUpTo version issuer) begun plan version issuer k d →
     (IsTrue k.tells → LeavesOnly first k.since (IsFoundSince held version issuer d.start)) →
+    (IsTrue k.tells → NeverLoses first k.since) →
     faults ≤ k.faults → StoreDrains (StandsSince held version issuer) begun plan version issuer (record {
       tells = k.tells;
       since = first;
@@ -145,7 +148,7 @@ pub since_opening : (begun : Beginning) (plan : Plan) (version : Version) (issue
       faults = faults;
       faults_after = k.faults_after;
     }) d
-since_opening begun plan version issuer k d first held faults h found early = record {
+since_opening begun plan version issuer k d first held faults h found stays early = record {
   session = h.session;
   notes = h.notes;
   legal = h.legal;
@@ -155,6 +158,7 @@ since_opening begun plan version issuer k d first held faults h found early = re
         (StandsSince held version issuer d.start d.end d.torn) (found says) kept.each_moment
         (λ c here. since_found held version issuer d.start d.end d.torn c (record { rest = h.notes.more; is = h.notes.is }) here)
         (λ c here. inr here);
+    never_loses = none_lost_in_both first k.since k.now (stays says) kept.never_loses;
     every_crash = kept.every_crash;
     reads = kept.reads;
   };

@@ -12,6 +12,7 @@ use Rattle.shop_core.specs.File.Laws.{NotBegunIsNeither}
 use Rattle.shop_core.specs.Prefix.{IsPrefix}
 use Rattle.shop_core.specs.declared.answer.Reply.{Reply}
 use Rattle.chain_store.specs.Crashes.{KeptByRun, StandsUpTo}
+use Rattle.chain_store.specs.Losing.{NeverLoses, none_lost_in_both}
 use Rattle.chain_store.specs.Opening.{IsOnlySynced}
 use Rattle.shop_drain.specs.Crashes.{IsFoundSince, StandsSince}
 
@@ -54,10 +55,10 @@ since_found held version issuer start end torn c begins (inr stands) = inr (reco
 
 -- what a run leaves, said since its file was opened
 pub kept_since : (IsTorn : Entry → Type 0) (held : List ℕ) (version : Version) (issuer : List ℕ) (start end : List Entry)
-    (replies : List (Result Reply StoreFault)) (first opened now : OnDisk) → IsPrefix start end → LeavesOnly first opened (IsFoundSince held version issuer start) →
+    (replies : List (Result Reply StoreFault)) (first opened now : OnDisk) → IsPrefix start end → LeavesOnly first opened (IsFoundSince held version issuer start) → NeverLoses first opened →
     KeptByRun (StandsUpTo version issuer start end) IsTorn version issuer end replies opened now →
     KeptByRun (StandsSince held version issuer start end) IsTorn version issuer end replies first now
-kept_since IsTorn held version issuer start end replies first opened now begins found h = record {
+kept_since IsTorn held version issuer start end replies first opened now begins found stays h = record {
   torn = h.torn;
   at_most_one = h.at_most_one;
   by_a_fault = h.by_a_fault;
@@ -66,6 +67,7 @@ kept_since IsTorn held version issuer start end replies first opened now begins 
     each_moment = follows first opened now (IsFoundSince held version issuer start) (StandsUpTo version issuer start end h.torn)
         (StandsSince held version issuer start end h.torn) found h.kept.each_moment
         (λ c here. since_found held version issuer start end h.torn c begins here) (λ c here. inr here);
+    never_loses = none_lost_in_both first opened now stays h.kept.never_loses;
     every_crash = h.kept.every_crash;
     reads = h.kept.reads;
   };

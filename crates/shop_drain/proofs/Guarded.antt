@@ -6,6 +6,7 @@ use Rattle.std.specs.List.{AllByRecursion}
 use Rattle.chain_disk.specs.OnDisk.{IsImage, OnDisk}
 use Rattle.chain_disk.specs.Runs.{leaves_now, started, weaker}
 use Rattle.chain_store.specs.Crashes.{StandsBetween, StandsForEnd, StandsUpTo}
+use Rattle.chain_store.specs.Losing.{none_lost}
 use Rattle.chain_store.specs.Ready.{Holds, IsReady}
 use Rattle.huella.specs.Linked.{Linked}
 use Rattle.once_world.specs.Agreement.{Agree}
@@ -95,6 +96,7 @@ module _ {D : Type 0} (tells : Bool) (on_disk : D → OnDisk) (faults : D → �
         since = λ says. started (on_disk c.disk)
             (StandsBetween c.history.version c.history.issuer c.history.entries (longest c))
             (λ file image. between file none (sound.images says file (inl (refl, image))));
+        never_loses = λ says. none_lost (on_disk c.disk);
         later = omega arith;
       }
     where
@@ -156,6 +158,7 @@ module _ {D : Type 0} (tells : Bool) (on_disk : D → OnDisk) (faults : D → �
       linked = linked version issuer new.history.entries legal;
       kept = λ says. record {
         each_moment = weaker (on_disk old.disk) (on_disk new.disk) _ _ (goes.since says) up_to;
+        never_loses = goes.never_loses says;
         every_crash = λ file left. either file (sound.images says file left);
         reads = either (on_disk new.disk).content (sound.images says (on_disk new.disk).content (inl (refl, image says)));
       };

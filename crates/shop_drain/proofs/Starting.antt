@@ -5,6 +5,7 @@ use Rattle.std.specs.List.{AllByRecursion}
 use Rattle.chain_disk.specs.OnDisk.{OnDisk}
 use Rattle.chain_disk.specs.Runs.{weaker, started_settled, leaves_now}
 use Rattle.chain_lock.specs.Lists.{StartsWith}
+use Rattle.chain_store.specs.Losing.{none_lost}
 use Rattle.chain_store.specs.Ready.{IsReady, Holds}
 use Rattle.record_codec.specs.declared.entry.Entry.{Entry}
 use Rattle.shop_core.specs.File.Files.{StandsFor}
@@ -63,6 +64,7 @@ module _ {D C : Type 0} (tells : Bool) (on_disk : D → OnDisk) (faults : D → 
                 begins = record { rest = []; is = sym (append-nil p.state.entries) };
                 within = record { rest = []; is = sym (append-nil p.state.entries) };
               });
+          never_loses = none_lost (on_disk p.disk);
           whole = λ c left. inl (leaves_now (on_disk p.disk) (StandsFor p.state.version p.state.issuer p.state.entries) holds.file.nothing_pending
               stands c left);
         });

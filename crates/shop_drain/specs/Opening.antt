@@ -3,6 +3,7 @@ use Rattle.std.specs.Prelude.{◌≡◌, ◌-◌, [], IsTrue, ◌≤◌, ℕ, Li
 use Rattle.sender.specs.Turning.{AgencyState, AgencyKind}
 use Rattle.ports.specs.Sinks.{Sinks, WroteNothing}
 use Rattle.chain_disk.specs.Disks.{Disks, DiskRose, LeftDisk}
+use Rattle.chain_store.specs.Losing.{NeverLoses}
 use Rattle.chain_store.specs.declared.causes.OpenCause.{OpenCause}
 use Rattle.chain_store.specs.declared.causes.OpenCause.TheVariants as cause
 use Rattle.recovery.specs.Opening.{IsLeftUnopened, IsFound}
@@ -35,7 +36,7 @@ pub record NoRoom {D : Type 0} (left : Type 0) (s : Sinks) (k : Disks D) (end : 
   pub disk : LeftDisk k
   pub rest : left
 
--- the file wasn't opened, nothing was printed, and the rest wasn't touched
+-- the file wasn't opened, what was made sure of at any moment stays, nothing was printed, and the rest wasn't touched
 pub record NotOpened {D : Type 0} (issuer : List ℕ) (left : Type 0) (s : Sinks) (k : Disks D) (end : Detail) : Type 0 where
   pub why : OpenCause
   pub ends : end ≡ opening_end why
@@ -44,6 +45,7 @@ pub record NotOpened {D : Type 0} (issuer : List ℕ) (left : Type 0) (s : Sinks
   --= where the disk's count of faults rose.
   --= No body: it is of `chain_store/open_journal.left`
   pub left_by : IsTrue k.tells → IsLeftUnopened issuer why (k.on_disk k.disk) (k.on_disk k.disk_after)
+  pub never_loses : IsTrue k.tells → NeverLoses (k.on_disk k.disk) (k.on_disk k.disk_after)
   --= Where the file wasn't opened, the sync at the start failed, or each crash since it leaves the bytes that stood
   --= there, or, where these were no begun file, one that isn't begun or is begun and empty.
   --= No body: it is of `open_journal`: `chain_store/open_journal.left` and `chain_store/open_journal.unwritten`
@@ -54,7 +56,8 @@ pub record NotOpened {D : Type 0} (issuer : List ℕ) (left : Type 0) (s : Sinks
   pub rest : left
 
 -- The file was opened: its store is this issuer's, with the history that the file stood for and its version, and the clock
--- wasn't read. Each crash since the sync at the opening leaves what was found; now it leaves that history.
+-- wasn't read. Each crash since the sync at the opening leaves what was found, and what was made sure of at any moment since then
+-- stays; now each crash leaves that history.
 pub record IsOpened {D C : Type 0} (issuer : List ℕ) (h : StoreKind D C) (disk : D) (clock : C) (store : Parts D C) : Type 0 where
   pub issuer_is : store.state.issuer ≡ issuer
   pub clock_is : store.clock ≡ clock
@@ -64,6 +67,7 @@ pub record IsOpened {D C : Type 0} (issuer : List ℕ) (h : StoreKind D C) (disk
   pub any_moment : IsTrue h.tells →
       LeavesOnly (synced (h.on_disk disk)) (h.on_disk store.disk)
       (IsFoundSince (h.on_disk disk).content store.state.version issuer store.state.entries)
+  pub never_loses : IsTrue h.tells → NeverLoses (synced (h.on_disk disk)) (h.on_disk store.disk)
   pub every_crash : IsTrue h.tells → LeavesNow (h.on_disk store.disk) (StandsFor store.state.version issuer store.state.entries)
   pub later : h.faults disk ≤ h.faults store.disk
 
@@ -71,3 +75,4 @@ pub record IsOpened {D C : Type 0} (issuer : List ℕ) (h : StoreKind D C) (disk
 pub record IsUnopened {D : Type 0} (issuer : List ℕ) (why : OpenCause) (k : Disks D) : Type 0 where
   pub risen : why ≡ cause.DiskFault → DiskRose k
   pub left_by : IsTrue k.tells → IsLeftUnopened issuer why (k.on_disk k.disk) (k.on_disk k.disk_after)
+  pub never_loses : IsTrue k.tells → NeverLoses (k.on_disk k.disk) (k.on_disk k.disk_after)

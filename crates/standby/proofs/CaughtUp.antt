@@ -6,6 +6,7 @@ use Rattle.std.specs.Prelude.{IsSome, slice_get}
 use Rattle.chain_disk.specs.OnDisk.{OnDisk}
 use Rattle.chain_disk.specs.Runs.{follows}
 use Rattle.chain_store.specs.Crashes.{StandsBetween}
+use Rattle.chain_store.specs.Losing.{none_lost_in_both}
 use Rattle.journal.specs.declared.faults.StoreFault.{StoreFault}
 use Rattle.journal.specs.declared.faults.StoreFault.TheVariants.{DiskFault, Stopped, NoMemory}
 use Rattle.record_fields.specs.declared.versions.Version.{Version}
@@ -169,6 +170,8 @@ module _ {D : Type 0} (tells : Bool) (on_disk : D → OnDisk) (faults : D → �
         (λ file h. between_wider a.history.version a.history.issuer a.history.entries b.history.entries entries entries file
         f.begins (front_same entries)
         (subst₂ (λ (v : Version) (n : List ℕ). StandsBetween v n b.history.entries entries file) f.version f.issuer h));
+    never_loses = λ says. none_lost_in_both (on_disk a.disk) (on_disk b.disk) (on_disk c.disk) (f.never_loses says)
+        (g.never_loses says);
   }
 
   -- what follows of one that goes on

@@ -5,6 +5,7 @@ use Rattle.std.specs.Prelude.{IsErrOf, OnErr, OnOk}
 use Rattle.chain_disk.specs.OnDisk.{OnDisk, LeavesNow, LeavesOnly, moment}
 use Rattle.chain_disk.specs.Runs.{follows, leaves_now, started, weaker}
 use Rattle.chain_disk.specs.declared.disk.Disk.{Ghosts}
+use Rattle.chain_store.specs.Losing.{NeverLoses, none_lost, none_lost_in_both}
 use Rattle.chain_store.specs.Ready.{Holds, IsReady, WritesEntry}
 use Rattle.chain_store.specs.Store.{Adds}
 use Rattle.chain_store.specs.declared.store.Store.{Store}
@@ -146,6 +147,7 @@ module _ {D : Type 0} (tells : Bool) (on_disk : D → OnDisk) (faults : D → �
     since = λ says. started (on_disk chain.disk) (StandsBetween chain.history.version chain.history.issuer chain.history.entries (longest chain))
         (λ c image. between_either chain.history.version chain.history.issuer chain.history.entries (longest chain) c
         (longest_begins chain.history.entries chain.stopped chain.torn) (s.images says c (inl (refl, image))));
+    never_loses = λ says. none_lost (on_disk chain.disk);
     later = omega arith;
   }
 
@@ -161,6 +163,8 @@ module _ {D : Type 0} (tells : Bool) (on_disk : D → OnDisk) (faults : D → �
         (λ file h. between_wider a.history.version a.history.issuer a.history.entries b.history.entries (longest c) (longest c) file
         f.begins (front_same (longest c))
         (subst₂ (λ (v : Version) (n : List ℕ). StandsBetween v n b.history.entries (longest c) file) f.version f.issuer h));
+    never_loses = λ says. none_lost_in_both (on_disk a.disk) (on_disk b.disk) (on_disk c.disk) (f.never_loses says)
+        (g.never_loses says);
     later = omega (arith, f.later, g.later);
   }
 
@@ -173,6 +177,7 @@ module _ {D : Type 0} (tells : Bool) (on_disk : D → OnDisk) (faults : D → �
     pub same : OnErr r (new.history.entries ≡ old.history.entries)
     pub any_moment : IsTrue tells → LeavesOnly (on_disk old.disk) (on_disk new.disk)
         (StandsBeforeOrWith old.history.version old.history.issuer old.history.entries entry)
+    pub never_loses : IsTrue tells → NeverLoses (on_disk old.disk) (on_disk new.disk)
     pub acknowledged : OnOk r (IsTrue tells → LeavesNow (on_disk new.disk) (StandsFor new.history.version new.history.issuer new.history.entries))
     pub content : OnOk r (IsTrue tells →
         WritesEntry old.history.version entry old.gate (on_disk old.disk) (on_disk new.disk))
@@ -188,8 +193,9 @@ module _ {D : Type 0} (tells : Bool) (on_disk : D → OnDisk) (faults : D → �
       IsPrefix old.history.entries new.history.entries → longest new ≡ old.history.entries ++ entry ∷ [] →
       (IsTrue tells → LeavesOnly (on_disk old.disk) (on_disk new.disk)
       (StandsBeforeOrWith old.history.version old.history.issuer old.history.entries entry)) →
+      (IsTrue tells → NeverLoses (on_disk old.disk) (on_disk new.disk)) →
       faults old.disk ≤ faults new.disk → Goes old new
-  goes_with old new entry was issuer version begins long only later = record {
+  goes_with old new entry was issuer version begins long only never_loses later = record {
     issuer = issuer;
     version = version;
     begins = begins;
@@ -198,6 +204,7 @@ module _ {D : Type 0} (tells : Bool) (on_disk : D → OnDisk) (faults : D → �
         (only says)
         (λ c h. subst (λ (es : List Entry). StandsBetween old.history.version old.history.issuer old.history.entries es c) (sym long)
         (between_with old.history.version old.history.issuer old.history.entries entry c h));
+    never_loses = never_loses;
     later = later;
   }
 
@@ -216,7 +223,8 @@ module _ {D : Type 0} (tells : Bool) (on_disk : D → OnDisk) (faults : D → �
           stop = λ count e. absurd (let x : ◌≡◌ {A = Option ℕ} None (Some count) = sym k.added.0 ∙ e in cc);
         },
         record {
-          goes = goes_with old new entry was k.issuer k.version (record { rest = entry ∷ []; is = k.added.1 }) now k.any_moment k.later;
+          goes = goes_with old new entry was k.issuer k.version (record { rest = entry ∷ []; is = k.added.1 }) now k.any_moment
+              k.never_loses k.later;
           added = k.added;
           same = tt;
           any_moment = k.any_moment;
@@ -251,7 +259,7 @@ module _ {D : Type 0} (tells : Bool) (on_disk : D → OnDisk) (faults : D → �
         },
         record {
           goes = goes_with old new entry was k.issuer k.version (front_by old.history.entries new.history.entries k.same) now
-              k.any_moment k.later;
+              k.any_moment k.never_loses k.later;
           added = tt;
           same = k.same;
           any_moment = k.any_moment;
@@ -319,6 +327,7 @@ module _ {D : Type 0} (tells : Bool) (on_disk : D → OnDisk) (faults : D → �
         (sym r.disk)
         (subst (λ (es : List Entry). LeavesOnly (on_disk s.disk) (on_disk a.disk) (StandsBetween s.history.version s.history.issuer s.history.entries es))
         (sym (same_longest a b r)) (g.since says));
+    never_loses = λ says. subst (λ (d : D). NeverLoses (on_disk s.disk) (on_disk d)) (sym r.disk) (g.never_loses says);
     later = subst (λ (d : D). faults s.disk ≤ faults d) (sym r.disk) g.later;
   }
 
@@ -333,6 +342,7 @@ module _ {D : Type 0} (tells : Bool) (on_disk : D → OnDisk) (faults : D → �
         (subst₂ (λ (v : Version) (n : List ℕ). LeavesOnly (on_disk b.disk) (on_disk c.disk) (StandsBetween v n a.history.entries (longest c))) r.version r.issuer
         (subst (λ (es : List Entry). LeavesOnly (on_disk b.disk) (on_disk c.disk) (StandsBetween b.history.version b.history.issuer es (longest c)))
         r.entries (g.since says)));
+    never_loses = λ says. subst (λ (d : D). NeverLoses (on_disk d) (on_disk c.disk)) r.disk (g.never_loses says);
     later = subst (λ (d : D). faults d ≤ faults c.disk) r.disk g.later;
   }
 
@@ -453,6 +463,7 @@ module _ {D C : Type 0} {g : Ghosts D} (tells : Bool) (on_disk : D → OnDisk) (
       added = a.added;
       same = tt;
       any_moment = a.any_moment;
+      never_loses = a.never_loses;
       acknowledged = a.acknowledged;
       content = a.content;
       torn = tt;
@@ -469,6 +480,7 @@ module _ {D C : Type 0} {g : Ghosts D} (tells : Bool) (on_disk : D → OnDisk) (
       added = tt;
       same = a.same;
       any_moment = a.any_moment;
+      never_loses = a.never_loses;
       acknowledged = tt;
       content = tt;
       torn = a.torn refl;

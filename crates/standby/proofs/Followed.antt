@@ -20,6 +20,7 @@ use Rattle.record_fields.specs.declared.versions.Version.{Version}
 use Rattle.standby.specs.Arriving.{ArrivesAs, Arrives, Brings}
 use Rattle.standby.specs.Chains.{ChainOnDisk, GoesTo, IsSoundChain, longest, with_torn}
 use Rattle.chain_store.specs.Crashes.{StandsBetween}
+use Rattle.chain_store.specs.Losing.{none_lost, none_lost_in_both}
 use Rattle.standby.specs.Following.{Follows, StandsForFront}
 use Rattle.standby.specs.Pieces.{ArePiecesOf, IsPieceOf}
 use Rattle.standby.specs.declared.arriving.Arrived.{Arrived}
@@ -68,6 +69,7 @@ module _ {D : Type 0} (tells : Bool) (on_disk : D → OnDisk) (faults : D → �
         (between_either chain.history.version chain.history.issuer chain.history.entries (longest chain) c
         (longest_begins chain.history.entries chain.stopped chain.torn) (s.images says c (inl (refl, image))))
         (λ some. images some says c (inl (refl, image))));
+    never_loses = λ says. none_lost (on_disk chain.disk);
   }
 
   -- the one after the other
@@ -93,6 +95,8 @@ module _ {D : Type 0} (tells : Bool) (on_disk : D → OnDisk) (faults : D → �
             (λ file h. between_wider a.history.version a.history.issuer a.history.entries b.history.entries entries entries file f.begins
             (front_same entries)
             (subst₂ (λ (v : Version) (n : List ℕ). StandsBetween v n b.history.entries entries file) f.version f.issuer h));
+        never_loses = λ says. none_lost_in_both (on_disk a.disk) (on_disk b.disk) (on_disk c.disk) (f.never_loses says)
+            (g.never_loses says);
       }
 
   -- pieces that weren't looked at do no harm
@@ -129,6 +133,7 @@ module _ {D : Type 0} (tells : Bool) (on_disk : D → OnDisk) (faults : D → �
             (b.any_moment says)
             (λ c h. between_wider version issuer old.history.entries old.history.entries (old.history.entries ++ entry ∷ []) entries c
             (front_same old.history.entries) wider (between_with version issuer old.history.entries entry c h));
+        never_loses = b.goes.never_loses;
       }
 
   module _ (one : OneHistory) (apart : EncodingsAreApart) (old new : ChainOnDisk D) (piece : Piece)

@@ -3,6 +3,7 @@ use Rattle.std.specs.Prelude.{◌≡◌, ◌⊎◌, ◌≤◌, ◌++◌, ◌∷�
 use Rattle.chain_disk.specs.OnDisk.{OnDisk, LeavesNow, LeavesOnly}
 use Rattle.chain_disk.specs.declared.disk.Disk.{Ghosts}
 use Rattle.chain_store.specs.Crashes.{StandsBetween}
+use Rattle.chain_store.specs.Losing.{NeverLoses}
 use Rattle.chain_store.specs.Ready.{IsReady}
 use Rattle.chain_store.specs.Store.{journal_of, state_of, torn_of}
 use Rattle.chain_store.specs.declared.store.Store.{Store}
@@ -74,7 +75,7 @@ pub record IsSoundChain {D : Type 0} (tells : Bool) (on_disk : D → OnDisk) (fa
   pub stop : (count : ℕ) → chain.stopped ≡ Some count → IsStop faults chain count
 
 -- Calls led from one to the other. The history begins with the one before, and each crash since leaves a history between the
--- two, with the torn entry where the journal has stopped.
+-- two, with the torn entry where the journal has stopped. What was made sure of at any moment stays.
 pub record GoesTo {D : Type 0} (tells : Bool) (on_disk : D → OnDisk) (faults : D → ℕ) (old new : ChainOnDisk D) : Type 0 where
   pub issuer : new.history.issuer ≡ old.history.issuer
   pub version : new.history.version ≡ old.history.version
@@ -82,6 +83,7 @@ pub record GoesTo {D : Type 0} (tells : Bool) (on_disk : D → OnDisk) (faults :
   pub longer : IsPrefix (longest old) (longest new)
   pub since : IsTrue tells → LeavesOnly (on_disk old.disk) (on_disk new.disk)
       (StandsBetween old.history.version old.history.issuer old.history.entries (longest new))
+  pub never_loses : IsTrue tells → NeverLoses (on_disk old.disk) (on_disk new.disk)
   pub later : faults old.disk ≤ faults new.disk
 
 -- Where the one goes on and its disk tells what it holds, its file was only appended to: the bytes before the closing gate stay, in

@@ -2,6 +2,7 @@
 use Rattle.std.specs.Prelude.{◌≡◌, ℕ, List, Bool, IsTrue, IsSome}
 use Rattle.chain_disk.specs.OnDisk.{OnDisk, LeavesNow, LeavesOnly}
 use Rattle.chain_store.specs.Crashes.{StandsBetween}
+use Rattle.chain_store.specs.Losing.{NeverLoses}
 use Rattle.record_fields.specs.declared.versions.Version.{Version}
 use Rattle.shop_core.specs.Prefix.{IsPrefix}
 use Rattle.record_codec.specs.declared.entry.Entry.{Entry}
@@ -17,7 +18,8 @@ pub record StandsForFront (version : Version) (issuer : List ℕ) (entries : Lis
   pub stands : StandsFor version issuer history file
   pub within : IsPrefix history entries
 
--- The history is a front of that one, and begins with the one before. So does each file that a crash at a moment since leaves.
+-- The history is a front of that one, and begins with the one before. So does each file that a crash at a moment since leaves. What
+-- was made sure of at any moment stays.
 pub record IsFollowing {D : Type 0} (tells : Bool) (on_disk : D → OnDisk) (old new : ChainOnDisk D) (entries : List Entry) :
     Type 0 where
   pub issuer : new.history.issuer ≡ old.history.issuer
@@ -26,6 +28,7 @@ pub record IsFollowing {D : Type 0} (tells : Bool) (on_disk : D → OnDisk) (old
   pub begins : IsPrefix old.history.entries new.history.entries
   pub images : IsTrue tells → LeavesOnly (on_disk old.disk) (on_disk new.disk)
       (StandsBetween old.history.version old.history.issuer old.history.entries entries)
+  pub never_loses : IsTrue tells → NeverLoses (on_disk old.disk) (on_disk new.disk)
 
 -- Whatever legal history all these pieces are of, and the standby's is a front of: the standby follows it. Where it has
 -- stopped, each file that a crash now leaves stands for a front of that history too; where it goes on, that is so anyway.

@@ -3,6 +3,7 @@ ghost use Rattle.std.specs.Prelude.{◌≡◌, ◌≤◌, ◌≢◌, ◌↔◌, 
 ghost use Rattle.ports.specs.Causes.{Rose};
 ghost use Rattle.huella.specs.Linked.{Linked};
 ghost use Rattle.chain_disk.specs.OnDisk.{LeavesNow, LeavesOnly, synced};
+ghost use Rattle.chain_store.specs.Losing.{NeverLoses};
 ghost use Rattle.chain_store.specs.Opening.{IsAtMostSynced, IsCreation, IsFound, IsLeftUnopened, IsOnlySynced};
 ghost use Rattle.chain_store.specs.Ready.{IsReady};
 ghost use Rattle.chain_store.specs.Store.{Ready, clock_of, journal_of, state_of, torn_of};
@@ -129,6 +130,10 @@ impl<D: Disk> Standby<D> {
         ensures any_moment { IfOk result (λ standby. IsTrue D.tells →
             LeavesOnly (synced (D.on_disk disk)) (D.on_disk standby.disk)
             (IsFound created standby.history.version issuer.now standby.history.entries)) }
+
+        // What was made sure of at any moment of the call stays, also as the disk was handed in.
+        ensures never_loses { IfOk result (λ standby. IsTrue D.tells → NeverLoses (D.on_disk disk) (D.on_disk standby.disk)) }
+        ensures never_loses_err { IfErr result (λ fault. IsTrue D.tells → NeverLoses (D.on_disk disk) (D.on_disk fault.disk)) }
         ensures unwritten { IfOk result (λ standby. IsTrue D.tells → IsOnlySynced (D.on_disk disk) (D.on_disk standby.disk)) }
         ensures unwritten_err { IfErr result (λ fault. IsTrue D.tells → IsAtMostSynced (D.on_disk disk) (D.on_disk fault.disk)) }
         ensures later { IfOk result (λ standby. D.faults disk ≤ D.faults standby.disk) }
@@ -164,6 +169,10 @@ impl<D: Disk> Standby<D> {
         ensures any_moment { IfOk result (λ standby. IsTrue D.tells →
             LeavesOnly (synced (D.on_disk disk)) (D.on_disk standby.disk)
             (IsFound version version issuer.now standby.history.entries)) }
+
+        // What was made sure of at any moment of the call stays, also as the disk was handed in.
+        ensures never_loses { IfOk result (λ standby. IsTrue D.tells → NeverLoses (D.on_disk disk) (D.on_disk standby.disk)) }
+        ensures never_loses_err { IfErr result (λ fault. IsTrue D.tells → NeverLoses (D.on_disk disk) (D.on_disk fault.disk)) }
 
         // Nothing is written but a file's creation: of a file that is begun already the sync is all that is told.
         ensures unwritten { IfOk result (λ standby. IsTrue D.tells → IsOnlySynced (D.on_disk disk) (D.on_disk standby.disk)) }

@@ -6,6 +6,7 @@ use Rattle.std.proofs.lemmas.List.{append-nil, map-append, length-map}
 use Rattle.record_fields.specs.declared.versions.Version.{Version}
 use Rattle.chain_disk.specs.OnDisk.{OnDisk, LeavesNow}
 use Rattle.chain_lock.specs.Lists.{StartsWith, MayAdd}
+use Rattle.chain_store.specs.Losing.{NeverLoses}
 use Rattle.chain_store.specs.Ready.{IsReady, Takes, Tears as StoreTears}
 use Rattle.shop_core.specs.File.Files.{StandsFor, StandsAround}
 use Rattle.journal.specs.declared.faults.StoreFault.{StoreFault}
@@ -103,6 +104,7 @@ module _ {D C : Type 0} (tells : Bool) (on_disk : D → OnDisk) (faults : D → 
     pub legal : Legal q.state.version q.state.issuer q.state.entries
     pub takes : p.stopped ≡ None → Takes (call_of tells on_disk coming p q) ask r
     pub torn : r ≡ Err DiskFault → StoreTears (call_of tells on_disk coming p q) ask q.torn
+    pub never_loses : IsTrue tells → NeverLoses (on_disk p.disk) (on_disk q.disk)
     pub acknowledged : OnOk r (IsTrue tells → LeavesNow (on_disk q.disk) (StandsFor q.state.version q.state.issuer q.state.entries))
     pub going_on : OnOk r ((p.stopped ≡ None) × (q.stopped ≡ None))
     pub no_memory : r ≡ Err NoMemory → (q.disk ≡ p.disk) × (q.stopped ≡ p.stopped)
@@ -139,7 +141,7 @@ module _ {D C : Type 0} (tells : Bool) (on_disk : D → OnDisk) (faults : D → 
       let clock : IsLater coming root.clock q.clock = later_more coming root.clock p.clock q.clock 1 s.clock takes.moved in
       let sound = sound_gains tells on_disk faults coming root p q takes.gained (StandsAround p.state.version p.state.issuer p.state.entries planned)
       s going t.going_on.1 t.ready takes.issuer takes.version t.legal takes.entries clock
-      takes.any_moment (λ c h. between_around root.version root.issuer root.history p.state.entries takes.gained planned reply c s.begins
+      takes.any_moment t.never_loses (λ c h. between_around root.version root.issuer root.history p.state.entries takes.gained planned reply c s.begins
       takes.reply (subst (λ (v : Version). StandsAround v root.issuer p.state.entries planned c) s.version
       (subst (λ (n : List ℕ). StandsAround p.state.version n p.state.entries planned c) s.issuer h)))
       t.acknowledged t.later in
@@ -163,7 +165,8 @@ module _ {D C : Type 0} (tells : Bool) (on_disk : D → OnDisk) (faults : D → 
       append-nil p.state.entries in
       let clock : IsLater coming root.clock q.clock = later_more coming root.clock p.clock q.clock 1 s.clock takes.moved in
       let sound = sound_stops tells on_disk faults coming root p q tears.entry (faults q.disk) s going fault.1 tears.entry_is refl
-      t.ready takes.issuer takes.version same tears.continues clock tears.any_moment fault.0 t.later in
+      t.ready takes.issuer takes.version same tears.continues clock tears.any_moment t.never_loses fault.0
+      t.later in
       let stopped : HasStopped faults root q (faults q.disk) = sound.stop (faults q.disk) fault.1 in
       outcome p q ask (Err DiskFault) sound (record {
         history = p.state.entries;

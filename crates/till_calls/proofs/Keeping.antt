@@ -7,6 +7,7 @@ use Rattle.chain_disk.specs.OnDisk.{OnDisk, LeavesOnly, LeavesNow, moment}
 use Rattle.chain_disk.specs.Runs.{follows, weaker, started_settled, leaves_now}
 use Rattle.chain_lock.specs.Lists.{StartsWith}
 use Rattle.chain_store.specs.Crashes.{StandsBetween}
+use Rattle.chain_store.specs.Losing.{NeverLoses, none_lost, none_lost_in_both}
 use Rattle.chain_store.specs.Ready.{IsReady, Holds}
 use Rattle.shop_core.specs.File.Files.{StandsFor, StandsAround, StandsBeforeOrWith}
 use Rattle.ports.specs.Causes.{Rose}
@@ -113,10 +114,11 @@ module _ {D C : Type 0} (tells : Bool) (on_disk : D → OnDisk) (faults : D → 
       q.state.version ≡ p.state.version → Legal q.state.version q.state.issuer q.state.entries →
       q.state.entries ≡ p.state.entries ++ gained →
       IsLater coming root.clock q.clock → (IsTrue tells → LeavesOnly (on_disk p.disk) (on_disk q.disk) P) →
+      (IsTrue tells → NeverLoses (on_disk p.disk) (on_disk q.disk)) →
       ((c : List ℕ) → P c → StandsBetween root.version root.issuer root.history (p.state.entries ++ gained) c) →
       (IsTrue tells → LeavesNow (on_disk q.disk) (StandsFor q.state.version q.state.issuer q.state.entries)) → faults p.disk ≤ faults q.disk →
       Sound q
-  sound_gains p q gained P s going goes ready issuer version legal entries clock only between now later = record {
+  sound_gains p q gained P s going goes ready issuer version legal entries clock only stays between now later = record {
     ready = ready;
     issuer = own;
     version = version ∙ s.version;
@@ -130,6 +132,7 @@ module _ {D C : Type 0} (tells : Bool) (on_disk : D → OnDisk) (faults : D → 
           since = subst (λ (es : List Entry). LeavesOnly root.on_disk (on_disk q.disk) (StandsBetween root.version root.issuer root.history es))
               (sym entries)
               (follows root.on_disk (on_disk p.disk) (on_disk q.disk) _ P _ (s.crashes says).since (only says) (λ c h. older c h) between);
+          never_loses = none_lost_in_both root.on_disk (on_disk p.disk) (on_disk q.disk) (s.crashes says).never_loses (stays says);
           whole = λ c left. inl (subst (λ (v : Version). StandsFor v root.issuer q.state.entries c) (version ∙ s.version)
               (subst (λ (n : List ℕ). StandsFor q.state.version n q.state.entries c) own (now says c left)));
         });
@@ -177,8 +180,9 @@ module _ {D C : Type 0} (tells : Bool) (on_disk : D → OnDisk) (faults : D → 
       Continues p.state.version p.state.issuer p.state.entries entry →
       IsLater coming root.clock q.clock → (IsTrue tells → LeavesOnly (on_disk p.disk) (on_disk q.disk)
       (StandsBeforeOrWith p.state.version p.state.issuer p.state.entries entry)) →
+      (IsTrue tells → NeverLoses (on_disk p.disk) (on_disk q.disk)) →
       Rose (faults p.disk) (faults q.disk) → faults p.disk ≤ faults q.disk → Sound q
-  sound_stops p q entry count s going stopped torn count_is ready issuer version entries continues clock only rose later =
+  sound_stops p q entry count s going stopped torn count_is ready issuer version entries continues clock only stays rose later =
       record {
         ready = ready;
         issuer = issuer ∙ s.issuer;
@@ -195,6 +199,7 @@ module _ {D C : Type 0} (tells : Bool) (on_disk : D → OnDisk) (faults : D → 
             (subst (λ (es : List Entry). Leaves root es (p.state.entries ++ entry ∷ []) (on_disk q.disk)) (sym entries) (record {
               since = follows root.on_disk (on_disk p.disk) (on_disk q.disk) _ _ _ (s.crashes says).since here (λ c h. older c h)
                   (λ c h. between_with root.version root.issuer root.history p.state.entries entry c s.begins (own c h));
+              never_loses = none_lost_in_both root.on_disk (on_disk p.disk) (on_disk q.disk) (s.crashes says).never_loses (stays says);
               whole = λ c left. own c (here.each (moment (on_disk q.disk)) c here.later left);
             }));
         stop = λ other e. record {
@@ -260,6 +265,7 @@ module _ {D C : Type 0} (tells : Bool) (on_disk : D → OnDisk) (faults : D → 
                 begins = prefix_all p.state.entries;
                 within = prefix_all p.state.entries;
               });
+          never_loses = none_lost (on_disk p.disk);
           whole = λ c left. inl (leaves_now (on_disk p.disk) (StandsFor p.state.version p.state.issuer p.state.entries) holds.file.nothing_pending
               stands c left);
         });

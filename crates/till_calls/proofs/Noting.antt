@@ -5,6 +5,7 @@ use Rattle.std.specs.Prelude.{OnOk, OnErr}
 use Rattle.std.proofs.lemmas.List.{map-append}
 use Rattle.chain_disk.specs.OnDisk.{OnDisk, LeavesNow, LeavesOnly}
 use Rattle.chain_lock.specs.Lists.{MayAdd}
+use Rattle.chain_store.specs.Losing.{NeverLoses}
 use Rattle.chain_store.specs.Ready.{IsReady, TearsLines}
 use Rattle.shop_core.specs.File.Files.{StandsFor, StandsBeforeOrWith}
 use Rattle.journal.specs.declared.faults.StoreFault.{StoreFault}
@@ -44,6 +45,7 @@ module _ {D C : Type 0} (tells : Bool) (on_disk : D → OnDisk) (faults : D → 
     pub clock : q.clock ≡ p.clock
     pub any_moment : IsTrue tells → LeavesOnly (on_disk p.disk) (on_disk q.disk) (StandsBeforeOrWith p.state.version p.state.issuer p.state.entries
         (Notes (length (noted p.state.entries)) lines))
+    pub never_loses : IsTrue tells → NeverLoses (on_disk p.disk) (on_disk q.disk)
     pub acknowledged : OnOk r (IsTrue tells → LeavesNow (on_disk q.disk) (StandsFor q.state.version q.state.issuer q.state.entries))
     pub going_on : OnOk r ((p.stopped ≡ None) × (q.stopped ≡ None))
     pub no_memory : r ≡ Err NoMemory → (q.disk ≡ p.disk) × (q.stopped ≡ p.stopped)
@@ -62,7 +64,7 @@ module _ {D C : Type 0} (tells : Bool) (on_disk : D → OnDisk) (faults : D → 
       let e = Notes (length (noted p.state.entries)) lines in
       let clock : IsLater coming root.clock q.clock = later_same coming root.clock p.clock q.clock s.clock t.clock in
       let sound = sound_gains tells on_disk faults coming root p q (e ∷ []) (StandsBeforeOrWith p.state.version p.state.issuer p.state.entries e) s
-      going t.going_on.1 t.ready t.issuer t.version t.legal t.added clock t.any_moment
+      going t.going_on.1 t.ready t.issuer t.version t.legal t.added clock t.any_moment t.never_loses
       (λ c h. between_with root.version root.issuer root.history p.state.entries e c s.begins
       (subst (λ (v : Version). StandsBeforeOrWith v root.issuer p.state.entries e c) s.version
       (subst (λ (n : List ℕ). StandsBeforeOrWith p.state.version n p.state.entries e c) s.issuer h))) t.acknowledged t.later in (
@@ -86,7 +88,7 @@ module _ {D C : Type 0} (tells : Bool) (on_disk : D → OnDisk) (faults : D → 
       let clock : IsLater coming root.clock q.clock = later_same coming root.clock p.clock q.clock s.clock t.clock in
       let sound = sound_stops tells on_disk faults coming root p q e (faults q.disk) s going fault.1 torn refl t.ready t.issuer
       t.version
-      t.same (t.torn refl).continues clock t.any_moment fault.0 t.later in
+      t.same (t.torn refl).continues clock t.any_moment t.never_loses fault.0 t.later in
       let stopped : HasStopped faults root q (faults q.disk) = sound.stop (faults q.disk) fault.1 in (
         sound,
         record {

@@ -3,6 +3,7 @@ use Rattle.std.specs.Prelude.{◌≡◌, ◌⊎◌, ◌≤◌, ℕ, List, Bool, 
 use Rattle.chain_disk.specs.OnDisk.{OnDisk, LeavesOnly, LeavesNow}
 use Rattle.chain_lock.specs.Lists.{StartsWith}
 use Rattle.chain_store.specs.Crashes.{StandsBetween}
+use Rattle.chain_store.specs.Losing.{NeverLoses}
 use Rattle.chain_store.specs.Ready.{IsReady}
 use Rattle.shop_core.specs.File.Files.{StandsFor}
 use Rattle.ports.specs.Causes.{Rose}
@@ -16,9 +17,11 @@ use Rattle.till_calls.specs.Root.{Root, Parts, with_torn}
 abbrev pub StandsForEither : Version → List ℕ → List Entry → List Entry → List ℕ → Type 0
 StandsForEither version issuer history longer file = StandsFor version issuer history file ⊎ StandsFor version issuer longer file
 
--- each crash since the start leaves a front of the history, or of that with the torn entry; now it leaves the whole
+-- Each crash since the start leaves a front of the history, or of that with the torn entry; now it leaves the whole. What was made
+-- sure of at any moment since then stays.
 pub record Leaves {C : Type 0} (root : Root C) (history longer : List Entry) (now : OnDisk) : Type 0 where
   pub since : LeavesOnly root.on_disk now (StandsBetween root.version root.issuer root.history longer)
+  pub never_loses : NeverLoses root.on_disk now
   pub whole : LeavesNow now (StandsForEither root.version root.issuer history longer)
 
 -- a stop: its count, and the entry whose append failed

@@ -4,6 +4,7 @@ use Rattle.std.proofs.Common.{Bool, IsTrue, Some}
 use Rattle.agency_rules.specs.declared.plans.Plan.{Plan}
 use Rattle.chain_disk.specs.Disks.{Disks, LeftDisk}
 use Rattle.chain_disk.specs.OnDisk.{IsImage, LeavesOnly, synced}
+use Rattle.chain_store.specs.Losing.{NeverLoses, none_lost}
 use Rattle.chain_disk.specs.Runs.{weaker}
 use Rattle.record_codec.specs.declared.entry.Entry.{Entry}
 use Rattle.record_fields.specs.declared.versions.Version.{Version}
@@ -79,13 +80,15 @@ none_noted start end torn file copy held same none = elim held.file_is [
 map_left : {D : Type 0} (issuer : List ℕ) (k : Disks D) (T U : List Entry → List Entry → List Entry → Type 0) →
     ((start end torn : List Entry) → T start end torn → U start end torn) → Left issuer k T → Left issuer k U
 map_left issuer k T U f (untouched same rest) = untouched same (λ start. f start start [] (rest start))
-map_left issuer k T U f (begun_in_part h rest) = begun_in_part h (λ start. f start start [] (rest start))
+map_left issuer k T U f (begun_in_part h stay rest) = begun_in_part h stay (λ start. f start start [] (rest start))
 map_left issuer k T U f (grown version start end torn found chain rest) =
     grown version start end torn found chain (f start end torn rest)
 
 module _ {D C Z G : Type 0} (chained : AreLinked) (a : AllDevices D C Z G)
     (agency_stays : LeftAgency a.agency → a.agency.after ≡ a.agency.before) (l : Disks D)
-    (image : IsTrue l.tells → IsImage (l.on_disk l.disk).now (l.on_disk l.disk).content) (one : OneHistory)
+    (image : IsTrue l.tells → IsImage (l.on_disk l.disk).now (l.on_disk l.disk).content)
+    (file_image : IsTrue a.devices.disk.tells →
+    IsImage (a.devices.disk.on_disk a.devices.disk.disk).now (a.devices.disk.on_disk a.devices.disk.disk).content) (one : OneHistory)
     (neither : NotBegunIsNeither) (issuer : List ℕ) where
   abbrev file : Disks D
   file = a.devices.disk
@@ -102,9 +105,13 @@ module _ {D C Z G : Type 0} (chained : AreLinked) (a : AllDevices D C Z G)
   FileRest start end torn =
       TillsGain a.devices.source start end × AgencyKept start end torn a.agency × BatchesKept start end a.agency
 
+  abbrev CopyStays : Type 0
+  CopyStays = IsTrue l.tells → NeverLoses (l.on_disk l.disk) (l.on_disk l.disk_after)
+
   record Rest (start end torn : List Entry) : Type 0 where
     own : FileRest start end torn
     copy : CopyRest start end torn
+    stays : CopyStays
 
   left_copy : LeftDisk l → (start : List Entry) → CopyRest start start []
   left_copy same start version found tells = subst (λ (d : D). LeavesOnly (l.on_disk l.disk) (l.on_disk d)
@@ -119,7 +126,11 @@ module _ {D C Z G : Type 0} (chained : AreLinked) (a : AllDevices D C Z G)
   )
 
   nothing : LeftAgency a.agency → LeftDisk l → (start : List Entry) → Rest start start []
-  nothing left same start = record { own = nothing_own left start; copy = left_copy same start }
+  nothing left same start = record {
+    own = nothing_own left start;
+    copy = left_copy same start;
+    stays = λ tells. subst (λ (d : D). NeverLoses (l.on_disk l.disk) (l.on_disk d)) (sym same) (none_lost (l.on_disk l.disk));
+  }
 
   -- for the version with which the file is found
   at_version : (version : Version) (start history : List Entry) → IsOf version start →
@@ -132,7 +143,7 @@ module _ {D C Z G : Type 0} (chained : AreLinked) (a : AllDevices D C Z G)
 
   module _ (says : IsTrue file.tells) where
     uncalled : LeftDisk file → LeftAgency a.agency → LeftDisk l → Left issuer file Rest
-    uncalled disk agency same = left_disk chained issuer file Rest disk (nothing agency same)
+    uncalled disk agency same = left_disk chained issuer file (file_image says) Rest disk (nothing agency same)
 
     agency_kept : (plan : Plan) (exact : Bool) (moment : ℕ) (end : Detail)
         (h : FileGuarded issuer plan exact moment a.devices.sink file l a.agency end) →
@@ -161,9 +172,9 @@ module _ {D C Z G : Type 0} (chained : AreLinked) (a : AllDevices D C Z G)
         let to_end : IsPrefix h.start o.end = subst (λ (es : List Entry). IsPrefix h.start es) d.ahead.copy_is
         (record { rest = d.standby.notes.more; is = d.standby.notes.is }) in
         grown h.version h.start f.entries f.torn (h.found says)
-        (goes_on chained issuer file h.version h.start f.entries f.torn (h.found says) begins d.shop.legal
+        (goes_on chained issuer file (file_image says) h.version h.start f.entries f.torn (h.found says) begins d.shop.legal
         (file_torn o.end o.torn f h.copy_held d.ahead (one_of span a.agency.begun plan d.session)) d.shop.torn_risen
-        kept.each_moment kept.every_crash kept.reads) (record {
+        kept.each_moment kept.never_loses kept.every_crash kept.reads) (record {
           own = (
             gains_notes a.devices.source h.start f.entries d.shop.notes,
             agency_kept plan exact moment end h d.session,
@@ -175,25 +186,28 @@ module _ {D C Z G : Type 0} (chained : AreLinked) (a : AllDevices D C Z G)
               (λ tells. weaker (l.on_disk l.disk) (l.on_disk l.disk_after) _ _ (d.standby.kept tells).each_moment
               (λ c is. further_image h.version issuer (h.copy_held.entries ++ h.copy_held.torn) (f.entries ++ f.torn)
               (l.on_disk l.disk) c (copy_within o.end o.torn f h.copy_held d.ahead) is));
+          stays = λ tells. (d.standby.kept tells).never_loses;
         })
 
     guard_file : (plan : Plan) (exact : Bool) (moment : ℕ) (end : Detail) →
         GuardsFile issuer plan exact moment a.devices.sink file l a.devices.clock a.sleeper a.agency end → Left issuer file Rest
     guard_file plan exact moment end (inl n) =
-        not_opened chained issuer file Rest says n (nothing n.rest.0.agency n.rest.1)
+        not_opened chained issuer file (file_image says) Rest says n (nothing n.rest.0.agency n.rest.1)
     guard_file plan exact moment end (inr (inl h)) =
         let found = h.found says in
         let legal = legal_found h.version issuer h.start (file.on_disk file.disk).content found in
         grown h.version h.start h.start [] found
-        (goes_on chained issuer file h.version h.start h.start [] found (whole h.start) legal (omega arith) (inl refl)
+        (goes_on chained issuer file (file_image says) h.version h.start h.start [] found (whole h.start) legal (omega arith) (inl refl)
         (weaker (synced (file.on_disk file.disk)) (file.on_disk file.disk_after) _ _ (h.any_moment says)
         (λ c is. since_found (file.on_disk file.disk).content h.version issuer h.start h.start [] c (whole h.start) is))
+        (h.never_loses says)
         (λ c left. inl (h.every_crash says c left)) (inl (h.reads says))) (record {
           own = nothing_own h.rest.agency h.start;
           copy = at_version h.version h.start (h.start ++ []) found
               (λ tells. weaker (l.on_disk l.disk) (l.on_disk l.disk_after) _ _ (h.copy.images tells)
               (λ c is. further_image h.version issuer h.start (h.start ++ []) (l.on_disk l.disk) c
               (record { rest = []; is = refl }) is));
+          stays = h.copy.never_loses;
         })
     guard_file plan exact moment end (inr (inr h)) = guarded plan exact moment end h
 
@@ -229,7 +243,13 @@ module _ {D C Z G : Type 0} (chained : AreLinked) (a : AllDevices D C Z G)
   pub only_guarded : (end : Detail) → GuardEnds issuer a l end → OnlyGuarded issuer file l
   only_guarded end h = record {
     own = λ says version start found.
-        let g = own_of chained issuer file one neither Rest (left_by says end h) version start found in
-        record { end = g.end; torn = g.torn; chain = g.chain; images = g.rest.copy version found };
+        let g = own_of chained issuer file (file_image says) one neither Rest (left_by says end h) version start found in
+        record {
+          end = g.end;
+          torn = g.torn;
+          chain = g.chain;
+          images = g.rest.copy version found;
+          never_loses = g.rest.stays;
+        };
     others = λ says other. unowned_by end h says other;
   }

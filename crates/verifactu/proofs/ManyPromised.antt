@@ -10,7 +10,7 @@ use Rattle.ports.specs.Sources.{Sources}
 use Rattle.ports.specs.declared.Clock as clock
 use Rattle.ports.specs.declared.sleeper.Sleeper as sleeper
 use Rattle.chain_disk.specs.Disks.{DiskRose, Disks}
-use Rattle.chain_disk.specs.OnDisk.{synced}
+use Rattle.chain_disk.specs.OnDisk.{IsImage, synced}
 use Rattle.chain_disk.specs.declared.disk.Disk as disk
 use Rattle.agency_port.specs.declared.agency.Agency as agency
 use Rattle.chain_store.specs.Crashes.{SurvivesCrashes}
@@ -107,7 +107,9 @@ or_so f (inl a) = inl a
 or_so f (inr p) = inr (f p)
 
 module _ {D C Z G : Type 0} (chained : AreLinked) (a : AllDevices D C Z G)
-    (agency_stays : LeftAgency a.agency → a.agency.after ≡ a.agency.before) (within : NotedWithinRecords)
+    (agency_stays : LeftAgency a.agency → a.agency.after ≡ a.agency.before)
+    (image : (d : D) → IsTrue a.devices.disk.tells → IsImage (a.devices.disk.on_disk d).now (a.devices.disk.on_disk d).content)
+    (within : NotedWithinRecords)
     (rules : IsTrue a.agency.kind.keeps_rules → IsTrue a.agency.kind.tells) (issuer : List ℕ) (says : IsTrue a.devices.disk.tells) where
   abbrev k : Disks D
   k = a.devices.disk
@@ -128,7 +130,7 @@ module _ {D C Z G : Type 0} (chained : AreLinked) (a : AllDevices D C Z G)
         (front_legal w.played.version issuer start middle w.played.begins w.played.legal)
 
     drained : IsDrained script w.played.version issuer middle w.played.replies k w.middle a.sleeper a.agency w.outcome →
-        LeftBy chained a agency_stays issuer
+        LeftBy chained a agency_stays image issuer
     drained d =
         let o = w.outcome in
         let h = d.drains in
@@ -146,10 +148,10 @@ module _ {D C Z G : Type 0} (chained : AreLinked) (a : AllDevices D C Z G)
         let batches = batches_back a.agency start middle w.played.begins same few o.end
         (batches_of_drain a.agency script.plan middle exact moment o onward h.session) in
         grown version start o.end o.torn (w.played.found says)
-        (goes_on chained issuer k version start o.end o.torn (w.played.found says)
+        (goes_on chained issuer k (image k.disk says) version start o.end o.torn (w.played.found says)
         (prefix_on start middle o.end w.played.begins onward) h.legal (one_of h.session)
         (or_so (λ rose below. let r = rose below in let l = w.later in omega (arith, r, l)) h.torn_risen) kept.each_moment
-        kept.every_crash kept.reads) (tills, agency, batches)
+        kept.never_loses kept.every_crash kept.reads) (tills, agency, batches)
       where
         one_of : IsUnopened (spanning middle a.agency.kind a.agency.before a.agency.after (tells_moment script.clock a.sleeper)
             (first_moment script.clock a.sleeper) w.outcome)
@@ -158,7 +160,7 @@ module _ {D C Z G : Type 0} (chained : AreLinked) (a : AllDevices D C Z G)
         one_of (inl none) = let e = ap (λ (es : List Entry). length es) none.torn in omega (arith, e)
         one_of (inr s) = s.sends.at_most_one
 
-    alone : IsBegunAlone script.plan middle w.played.replies k w.middle a.agency w.outcome → LeftBy chained a agency_stays issuer
+    alone : IsBegunAlone script.plan middle w.played.replies k w.middle a.agency w.outcome → LeftBy chained a agency_stays image issuer
     alone b =
         let version = w.played.version in
         let q = w.played.kept says in
@@ -180,24 +182,25 @@ module _ {D C Z G : Type 0} (chained : AreLinked) (a : AllDevices D C Z G)
         let batches = batches_back a.agency start middle w.played.begins same few middle
         (batches_not_served a.agency script.plan middle session) in
         grown version start middle torn (w.played.found says)
-        (goes_on chained issuer k version start middle torn (w.played.found says) w.played.begins w.played.legal q.at_most_one
-        (by_fault w.played.stops) kept.each_moment kept.every_crash kept.reads) (tills, agency, batches)
+        (goes_on chained issuer k (image k.disk says) version start middle torn (w.played.found says) w.played.begins w.played.legal q.at_most_one
+        (by_fault w.played.stops) kept.each_moment kept.never_loses kept.every_crash kept.reads) (tills, agency, batches)
       where
         by_fault : StopsOnce (k.faults k.disk) (k.faults w.middle) w.played.replies → ((w.played.kept says).torn ≡ []) ⊎ DiskRose k
         by_fault (inl all) = inl ((w.played.kept says).by_a_fault all)
         by_fault (inr stopped) = inr (subst (λ (x : D). Rose (k.faults k.disk) (k.faults x)) (sym b.disk) stopped.risen)
 
-    works_left : LeftBy chained a agency_stays issuer
+    works_left : LeftBy chained a agency_stays image issuer
     works_left = elim w.behind [ inl d ↦ drained d | inr b ↦ alone b ]
 
   pub closed_left : (end : Detail) (block : Result (List ℕ) NoMemory) →
-      StaysClosed issuer a.devices.clock k a.sleeper a.agency end block → LeftBy chained a agency_stays issuer
-  closed_left end block h = unopened chained issuer k (Rest chained a agency_stays) h.why (h.unopened.left_by says) (nothing chained a agency_stays h.agency)
+      StaysClosed issuer a.devices.clock k a.sleeper a.agency end block → LeftBy chained a agency_stays image issuer
+  closed_left end block h = unopened chained issuer k (image k.disk says) (Rest chained a agency_stays image) h.why
+      (h.unopened.left_by says) (h.unopened.never_loses says) (nothing chained a agency_stays image h.agency)
 
 -- each issuer of a run
 module _ {D C Z G : Type 0} (chained : AreLinked) (within : NotedWithinRecords) (one : OneHistory) (neither : NotBegunIsNeither)
     (d : disk.Ghosts D) (c : clock.Ghosts C) (z : sleeper.Ghosts Z) (g : agency.Ghosts G) (rules : IsTrue g.keeps_rules → IsTrue g.tells)
-    (source : Sources) (s : Sinks) where
+    (image : (x : D) → IsTrue d.tells → IsImage (d.on_disk x).now (d.on_disk x).content) (source : Sources) (s : Sinks) where
   abbrev call : Post D C Z G → Post D C Z G → AllDevices D C Z G
   call post after = this_call source s d c z g post after
 
@@ -206,15 +209,15 @@ module _ {D C Z G : Type 0} (chained : AreLinked) (within : NotedWithinRecords) 
   same_agency_state post after left = ap (λ (x : G). agency_state_of g x) left
 
   kept_by : (issuer : List ℕ) (post after : Post D C Z G) →
-      (IsTrue d.tells → LeftBy chained (call post after) (same_agency_state post after) issuer) → FileKept (Some issuer) (call post after)
-  kept_by issuer post after left = by_writing chained (call post after) (same_agency_state post after) one neither issuer left
+      (IsTrue d.tells → LeftBy chained (call post after) (same_agency_state post after) image issuer) → FileKept (Some issuer) (call post after)
+  kept_by issuer post after left = by_writing chained (call post after) (same_agency_state post after) image one neither issuer left
 
   -- nothing was called
   all_left : (issuers : List (List ℕ)) (posts : List (Post D C Z G)) → length posts ≡ length issuers →
       AreKept d c z g issuers source s posts posts
   all_left [] [] e = tt
   all_left (issuer ∷ issuers) (post ∷ posts) e = (
-    kept_by issuer post post (λ says. uncalled chained (call post post) (same_agency_state post post) says issuer refl refl),
+    kept_by issuer post post (λ says. uncalled chained (call post post) (same_agency_state post post) image says issuer refl refl),
     all_left issuers posts (omega (arith, e)),
   )
   all_left [] (post ∷ posts) e = absurd (omega (arith, e))
@@ -224,9 +227,9 @@ module _ {D C Z G : Type 0} (chained : AreLinked) (within : NotedWithinRecords) 
     row_kept : (r : Row D C Z G) (before after : List Part) → parts ≡ before ++ r.part ∷ after → RowEnds d c z g r →
         FileKept (Some r.issuer) (call r.post r.after)
     row_kept r before after among (inl h) = kept_by r.issuer r.post r.after
-        (λ says. closed_left chained (call r.post r.after) (same_agency_state r.post r.after) within rules r.issuer says r.end r.block h)
+        (λ says. closed_left chained (call r.post r.after) (same_agency_state r.post r.after) image within rules r.issuer says r.end r.block h)
     row_kept r before after among (inr w) = kept_by r.issuer r.post r.after
-        (λ says. works_left chained (call r.post r.after) (same_agency_state r.post r.after) within rules r.issuer says r.part.script
+        (λ says. works_left chained (call r.post r.after) (same_agency_state r.post r.after) image within rules r.issuer says r.part.script
         (readings_of r.part.script.clock (c.coming r.post.clock)) (LeavesClock (clock_in c r.post r.after) r.part.script.clock) r.end r.block w
         (record {
           issuers = issuers;
@@ -284,12 +287,12 @@ module _ {D C Z G : Type 0} (chained : AreLinked) (within : NotedWithinRecords) 
 -- what is kept of several issuers
 pub many_keeps : {D C Z G : Type 0} (chained : AreLinked) (within : NotedWithinRecords) (one : OneHistory) (neither : NotBegunIsNeither)
     (d : disk.Ghosts D) (c : clock.Ghosts C) (z : sleeper.Ghosts Z) (g : agency.Ghosts G) (rules : IsTrue g.keeps_rules → IsTrue g.tells)
-    (a : AllDevices D C Z G) (f : Further D C Z G) (issuers : List (List ℕ)) (end : Detail) → ManyRan d c z g issuers a f end →
+    (image : (x : D) → IsTrue d.tells → IsImage (d.on_disk x).now (d.on_disk x).content) (a : AllDevices D C Z G) (f : Further D C Z G) (issuers : List (List ℕ)) (end : Detail) → ManyRan d c z g issuers a f end →
     FileKept (writes_for (Some (Many issuers))) a × OthersKept d c z g issuers a f
-many_keeps {D} {C} {Z} {G} chained within one neither d c z g rules a f issuers end h =
+many_keeps {D} {C} {Z} {G} chained within one neither d c z g rules image a f issuers end h =
     subst (λ (x : AllDevices D C Z G). FileKept (writes_for (Some (Many issuers))) x × OthersKept d c z g issuers x f) (sym h.own)
-    (own_and_others chained within one neither d c z g rules a.devices.source a.devices.sink issuers h.post h.after f
-    (all_kept chained within one neither d c z g rules a.devices.source a.devices.sink issuers (h.post ∷ f.posts)
+    (own_and_others chained within one neither d c z g rules image a.devices.source a.devices.sink issuers h.post h.after f
+    (all_kept chained within one neither d c z g rules image a.devices.source a.devices.sink issuers (h.post ∷ f.posts)
     (h.after ∷ f.posts_after) end h.one_each h.ends))
 
 -- as many posts come back as were given

@@ -9,6 +9,7 @@ use Rattle.chain_disk.specs.OnDisk.{IsImage, IsLeft, IsSettled, LeavesNow, Leave
 use Rattle.chain_disk.specs.Runs.{leaves_now, left_before, settled_image, started_settled, weaker}
 use Rattle.chain_store.specs.declared.causes.OpenCause.{OpenCause}
 use Rattle.chain_store.specs.declared.causes.OpenCause.TheVariants as cause
+use Rattle.chain_store.specs.Losing.{NeverLoses, none_lost_in_both, sync_failed_loses_none, sync_loses_none}
 use Rattle.huella.specs.Linked.{Linked}
 use Rattle.journal.specs.File.{IsNotBegun, IsNotBegunOrEmpty, closing_gate}
 use Rattle.shop_core.specs.Prefix.{IsPrefix}
@@ -163,7 +164,7 @@ one_torn (Some stop) = omega arith
 pub data Left {D : Type 0} (issuer : List ℕ) (k : Disks D) (T : List Entry → List Entry → List Entry → Type 0) : Type 0 where
   untouched : IsUnwritten (k.on_disk k.disk) (k.on_disk k.disk_after) → ((start : List Entry) → T start start []) → Left issuer k T
   begun_in_part : IsBegunInPart issuer (synced (k.on_disk k.disk)) (k.on_disk k.disk_after) →
-      ((start : List Entry) → T start start []) → Left issuer k T
+      NeverLoses (k.on_disk k.disk) (k.on_disk k.disk_after) → ((start : List Entry) → T start start []) → Left issuer k T
   grown : (version : Version) (start end torn : List Entry) → IsFound version issuer start (k.on_disk k.disk).content →
       ChainGoesOn version issuer start end torn k → T start end torn → Left issuer k T
 
@@ -215,7 +216,13 @@ abbrev pub AreLinked : Type 0
 AreLinked = (version : Version) (issuer : List ℕ) (entries : List Entry) → Legal version issuer entries →
     Linked issuer (recs entries)
 
-module _ {D : Type 0} (chained : AreLinked) (issuer : List ℕ) (k : Disks D) where
+-- nothing was written, so nothing is lost
+unwritten_loses_none : (old new : OnDisk) → IsImage old.now old.content → IsUnwritten old new → NeverLoses old new
+unwritten_loses_none old new image (inl failed) = sync_failed_loses_none old new failed
+unwritten_loses_none old new image (inr e) = sync_loses_none old new e image
+
+module _ {D : Type 0} (chained : AreLinked) (issuer : List ℕ) (k : Disks D)
+    (image : IsImage (k.on_disk k.disk).now (k.on_disk k.disk).content) where
   abbrev Old : OnDisk
   Old = k.on_disk k.disk
 
@@ -238,6 +245,7 @@ module _ {D : Type 0} (chained : AreLinked) (issuer : List ℕ) (k : Disks D) wh
         (found_held version issuer start Old.content found));
     crashes = same_crashes version issuer start Old New same found;
     append_only = still_appended version issuer start Old New same;
+    never_loses = unwritten_loses_none Old New image same;
   }
 
   -- a file that was begun in part
@@ -249,8 +257,8 @@ module _ {D : Type 0} (chained : AreLinked) (issuer : List ℕ) (k : Disks D) wh
       (found_unbegun Old.content Two issuer [] c h.not_begun (empty_found issuer c empty))))
       (λ c left. inl (empty_found issuer c (h.any_moment.each (moment New) c h.any_moment.later left)))
 
-  begins_file : IsBegunInPart issuer (synced Old) New → ChainGoesOn Two issuer [] [] [] k
-  begins_file h = record {
+  begins_file : IsBegunInPart issuer (synced Old) New → NeverLoses Old New → ChainGoesOn Two issuer [] [] [] k
+  begins_file h stay = record {
     begins = whole [];
     legal = none_legal Two issuer;
     linked = chained Two issuer [] (none_legal Two issuer);
@@ -261,15 +269,17 @@ module _ {D : Type 0} (chained : AreLinked) (issuer : List ℕ) (k : Disks D) wh
         (since_found Old.content Two issuer [] [] [] Old.content (whole []) (inl (h.not_begun, h.not_begun, refl, refl)));
     crashes = begun_crashes h;
     append_only = begun_appended Two issuer [] Old New (IsNotBegunOrEmpty Two issuer) h.not_begun h.any_moment;
+    never_loses = stay;
   }
 
   -- a file whose history went on
   pub goes_on : (version : Version) (start end torn : List Entry) → IsFound version issuer start Old.content →
       IsPrefix start end → Legal version issuer end →
       length torn ≤ 1 → (torn ≡ []) ⊎ DiskRose k → LeavesOnly (synced Old) New (StandsSince Old.content version issuer start end torn) →
+      NeverLoses (synced Old) New →
       LeavesNow New (StandsForEnd version issuer end torn) → StandsForEnd version issuer end torn New.content →
       ChainGoesOn version issuer start end torn k
-  goes_on version start end torn found begins legal at_most_one by_a_fault moments crash reads =
+  goes_on version start end torn found begins legal at_most_one by_a_fault moments stay crash reads =
       let crashes : Crashes (StandsSince Old.content version issuer start end torn) (IsEither version issuer end torn) Old New =
       since_sync moments (λ c left. either version issuer end torn c (crash c left)) in
       record {
@@ -283,6 +293,7 @@ module _ {D : Type 0} (chained : AreLinked) (issuer : List ℕ) (k : Disks D) wh
             (since_found Old.content version issuer start end torn Old.content begins (found_held version issuer start Old.content found));
         crashes = crashes;
         append_only = goes_on_appended version issuer start Old New end torn begins moments crash reads;
+        never_loses = none_lost_in_both Old (synced Old) New (sync_loses_none Old (synced Old) refl image) stay;
       }
 
   module _ (one : OneHistory) (neither : NotBegunIsNeither) where
@@ -296,10 +307,10 @@ module _ {D : Type 0} (chained : AreLinked) (issuer : List ℕ) (k : Disks D) wh
         IsFound version issuer start Old.content → Grown version issuer k T start
     own_of T (untouched same rest) version start found =
         record { end = start; torn = []; chain = stays version start same found; rest = rest start }
-    own_of T (begun_in_part h rest) version start found =
+    own_of T (begun_in_part h stay rest) version start found =
         at_that Two version [] start (same_found one neither Two version issuer [] start Old.content
         (inl (h.not_begun, refl, refl)) found)
-        (record { end = []; torn = []; chain = begins_file h; rest = rest [] })
+        (record { end = []; torn = []; chain = begins_file h stay; rest = rest [] })
     own_of T (grown here first end torn from chain rest) version start found =
         at_that here version first start (same_found one neither here version issuer first start Old.content from found)
         (record { end = end; torn = torn; chain = chain; rest = rest })
@@ -307,7 +318,7 @@ module _ {D : Type 0} (chained : AreLinked) (issuer : List ℕ) (k : Disks D) wh
   pub others_of : (T : List Entry → List Entry → List Entry → Type 0) → Left issuer k T →
       (IsOwn (Some issuer) Old.content → ⊥) → IsUnwritten Old New
   others_of T (untouched same rest) other = same
-  others_of T (begun_in_part h rest) other = absurd (other (Two, [], inl (h.not_begun, refl, refl)))
+  others_of T (begun_in_part h stay rest) other = absurd (other (Two, [], inl (h.not_begun, refl, refl)))
   others_of T (grown version start end torn found chain rest) other = absurd (other (version, start, found))
 
   -- no call of the disk was made
@@ -316,18 +327,18 @@ module _ {D : Type 0} (chained : AreLinked) (issuer : List ℕ) (k : Disks D) wh
   left_disk T same rest = untouched (inl (inl (ap k.on_disk same))) rest
 
   pub unopened : (T : List Entry → List Entry → List Entry → Type 0) (why : OpenCause) → IsLeftUnopened issuer why Old New →
-      ((start : List Entry) → T start start []) → Left issuer k T
-  unopened T cause.DiskFault (not_synced failed) rest = untouched (inl failed) rest
-  unopened T cause.DiskFault (not_read e) rest = untouched (inr e) rest
-  unopened T cause.DiskFault (in_part h) rest = begun_in_part h rest
-  unopened T (cause.Damaged at) h rest = untouched (inr h.1) rest
-  unopened T (cause.OtherIssuer held) h rest = untouched (inr h.1) rest
-  unopened T cause.NoMemory h rest = untouched (inr h) rest
+      NeverLoses Old New → ((start : List Entry) → T start start []) → Left issuer k T
+  unopened T cause.DiskFault (not_synced failed) stay rest = untouched (inl failed) rest
+  unopened T cause.DiskFault (not_read e) stay rest = untouched (inr e) rest
+  unopened T cause.DiskFault (in_part h) stay rest = begun_in_part h stay rest
+  unopened T (cause.Damaged at) h stay rest = untouched (inr h.1) rest
+  unopened T (cause.OtherIssuer held) h stay rest = untouched (inr h.1) rest
+  unopened T cause.NoMemory h stay rest = untouched (inr h) rest
 
   -- the file couldn't be opened
   pub not_opened : {left : Type 0} {s : Sinks} {end : Detail} (T : List Entry → List Entry → List Entry → Type 0) →
       IsTrue k.tells → NotOpened issuer left s k end → ((start : List Entry) → T start start []) → Left issuer k T
-  not_opened T says h rest = unopened T h.why (h.left_by says) rest
+  not_opened T says h rest = unopened T h.why (h.left_by says) (h.never_loses says) rest
 
   -- a run of replies, and the entry that was cut off in it
   pub by_kept : (P : Entry → Type 0) (version : Version) (start end : List Entry) (replies : Replies) →
@@ -335,31 +346,31 @@ module _ {D : Type 0} (chained : AreLinked) (issuer : List ℕ) (k : Disks D) wh
       (h : KeptByRun (StandsSince Old.content version issuer start end) P version issuer end replies (synced Old) New) →
       ChainGoesOn version issuer start end h.torn k
   by_kept P version start end replies found begins legal stops h =
-      goes_on version start end h.torn found begins legal h.at_most_one (by_a_fault stops) h.kept.each_moment h.kept.every_crash
-      h.kept.reads
+      goes_on version start end h.torn found begins legal h.at_most_one (by_a_fault stops) h.kept.each_moment
+      h.kept.never_loses h.kept.every_crash h.kept.reads
     where
       by_a_fault : StopsOnce (k.faults k.disk) (k.faults k.disk_after) replies → (h.torn ≡ []) ⊎ DiskRose k
       by_a_fault (inl all) = inl (h.by_a_fault all)
       by_a_fault (inr stopped) = inr stopped.risen
 
 -- a file that wasn't written, whoever's history it stands for
-pub stands_still : {D : Type 0} (chained : AreLinked) (k : Disks D) (T : List Entry → List Entry → List Entry → Type 0)
-    (version : Version) (issuer : List ℕ) (start : List Entry) → IsUnwritten (k.on_disk k.disk) (k.on_disk k.disk_after) →
+pub stands_still : {D : Type 0} (chained : AreLinked) (k : Disks D) (image : IsImage (k.on_disk k.disk).now (k.on_disk k.disk).content)
+    (T : List Entry → List Entry → List Entry → Type 0) (version : Version) (issuer : List ℕ) (start : List Entry) → IsUnwritten (k.on_disk k.disk) (k.on_disk k.disk_after) →
     ((start : List Entry) → T start start []) → StandsFor version issuer start (k.on_disk k.disk).content → Grown version issuer k T start
-stands_still chained k T version issuer start same rest stands =
-    record { end = start; torn = []; chain = stays chained issuer k version start same (inr stands); rest = rest start }
+stands_still chained k image T version issuer start same rest stands =
+    record { end = start; torn = []; chain = stays chained issuer k image version start same (inr stands); rest = rest start }
 
 -- whoever's history the file stood for, it went on
-pub sound_of : {D : Type 0} (chained : AreLinked) (k : Disks D) (T : List Entry → List Entry → List Entry → Type 0) →
-    OneHistory → NotBegunIsNeither → (own : List ℕ) (version : Version) (issuer : List ℕ) (start : List Entry) → Left own k T →
+pub sound_of : {D : Type 0} (chained : AreLinked) (k : Disks D) (image : IsImage (k.on_disk k.disk).now (k.on_disk k.disk).content)
+    (T : List Entry → List Entry → List Entry → Type 0) → OneHistory → NotBegunIsNeither → (own : List ℕ) (version : Version) (issuer : List ℕ) (start : List Entry) → Left own k T →
     StandsFor version issuer start (k.on_disk k.disk).content → Grown version issuer k T start
-sound_of chained k T one neither own version issuer start (untouched same rest) stands =
-    stands_still chained k T version issuer start same rest stands
-sound_of chained k T one neither own version issuer start (begun_in_part h rest) stands =
+sound_of chained k image T one neither own version issuer start (untouched same rest) stands =
+    stands_still chained k image T version issuer start same rest stands
+sound_of chained k image T one neither own version issuer start (begun_in_part h stay rest) stands =
     absurd ((neither version issuer start (k.on_disk k.disk).content 0 h.not_begun).0 stands)
-sound_of chained k T one neither own version issuer start (grown here first end torn (inl none) chain rest) stands =
+sound_of chained k image T one neither own version issuer start (grown here first end torn (inl none) chain rest) stands =
     absurd ((neither version issuer start (k.on_disk k.disk).content 0 none.0).0 stands)
-sound_of chained k T one neither own version issuer start (grown here first end torn (inr from) chain rest) stands =
+sound_of chained k image T one neither own version issuer start (grown here first end torn (inr from) chain rest) stands =
     let same = one here version own issuer first start (k.on_disk k.disk).content from stands in
     subst (λ (v : Version). Grown v issuer k T start) same.0
     (subst (λ (es : List Entry). Grown here issuer k T es) same.2

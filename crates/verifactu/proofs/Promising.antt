@@ -54,7 +54,13 @@ use Rattle.verifactu.proofs.Promised.Left.{grown}
 
 -- an agency that wasn't called has the state that it had
 module _ {D C Z G : Type 0} (chained : AreLinked) (a : AllDevices D C Z G)
-    (agency_stays : LeftAgency a.agency → a.agency.after ≡ a.agency.before) where
+    (agency_stays : LeftAgency a.agency → a.agency.after ≡ a.agency.before)
+    (image : (d : D) → IsTrue a.devices.disk.tells → IsImage (a.devices.disk.on_disk d).now (a.devices.disk.on_disk d).content) where
+  -- the disk at the start reads as a crash may leave it
+  first_image : IsTrue a.devices.disk.tells →
+      IsImage (a.devices.disk.on_disk a.devices.disk.disk).now (a.devices.disk.on_disk a.devices.disk.disk).content
+  first_image says = image a.devices.disk.disk says
+
   -- what is said besides the file: of each till, and of the agency
   abbrev pub Rest : List Entry → List Entry → List Entry → Type 0
   Rest start end torn =
@@ -73,7 +79,7 @@ module _ {D C Z G : Type 0} (chained : AreLinked) (a : AllDevices D C Z G)
   module _ (says : IsTrue a.devices.disk.tells) (issuer : List ℕ) where
     -- neither the disk nor the agency was called
     pub uncalled : LeftDisk a.devices.disk → LeftAgency a.agency → LeftBy issuer
-    uncalled disk agency = left_disk chained issuer a.devices.disk Rest disk (nothing agency)
+    uncalled disk agency = left_disk chained issuer a.devices.disk (first_image says) Rest disk (nothing agency)
 
     chain_script : (script : Script) (coming : ℕ → Option ℕ) (Leaves : Replies → Type 0) (end : Detail) →
         IsGoodScript Full a.devices.source script → NobodyCalled a →
@@ -81,12 +87,12 @@ module _ {D C Z G : Type 0} (chained : AreLinked) (a : AllDevices D C Z G)
     chain_script script coming Leaves end good nobody (inl h) =
         uncalled h.disk nobody.agency
     chain_script script coming Leaves end good nobody (inr (inl h)) =
-        not_opened chained issuer a.devices.disk Rest says h (nothing nobody.agency)
+        not_opened chained issuer a.devices.disk (first_image says) Rest says h (nothing nobody.agency)
     chain_script script coming Leaves end good nobody (inr (inr h)) =
         let p = h.0 in
         let kept = p.kept says in
         grown p.version p.start p.end kept.torn (p.found says)
-        (by_kept chained issuer a.devices.disk _ p.version p.start p.end p.replies (p.found says) p.begins p.legal p.stops kept) (
+        (by_kept chained issuer a.devices.disk (first_image says) _ p.version p.start p.end p.replies (p.found says) p.begins p.legal p.stops kept) (
           gains_run a.devices.source p.version issuer (IsComing coming) p.start script.asks p.replies p.end (inr (inl (script, good, refl)))
               p.run,
           left_agency a.agency (agency_stays nobody.agency) p.start p.end kept.torn (notes_nothing p.version issuer (IsComing coming) p.start p.run),
@@ -110,8 +116,8 @@ module _ {D C Z G : Type 0} (chained : AreLinked) (a : AllDevices D C Z G)
         let kept = h.kept says in
         let legal = legal_found h.version issuer h.start (a.devices.disk.on_disk a.devices.disk.disk).content (h.found says) in
         grown h.version h.start h.start [] (h.found says)
-        (goes_on chained issuer a.devices.disk h.version h.start h.start [] (h.found says) (whole h.start) legal (omega arith) (inl refl)
-        kept.each_moment kept.every_crash kept.reads) (
+        (goes_on chained issuer a.devices.disk (first_image says) h.version h.start h.start [] (h.found says) (whole h.start) legal (omega arith) (inl refl)
+        kept.each_moment kept.never_loses kept.every_crash kept.reads) (
           gains_nothing a.devices.source h.start,
           not_served a.agency plan h.start rules h.begun,
           batches_not_served a.agency plan h.start h.begun,
@@ -126,9 +132,9 @@ module _ {D C Z G : Type 0} (chained : AreLinked) (a : AllDevices D C Z G)
         let d = day_with issuer asks line drains (around a) o in
         let kept = crashes.kept says in
         grown o.version o.start o.end (torn_of o.stop) (crashes.found says)
-        (goes_on chained issuer a.devices.disk o.version o.start o.end (torn_of o.stop) (crashes.found says) history.begins
+        (goes_on chained issuer a.devices.disk (first_image says) o.version o.start o.end (torn_of o.stop) (crashes.found says) history.begins
         history.legal (one_torn o.stop) (torn_risen d (a.devices.disk.faults a.devices.disk.disk)
-        (a.devices.disk.faults a.devices.disk.disk_after) o.stop crashes.stop) kept.each_moment kept.every_crash kept.reads) (
+        (a.devices.disk.faults a.devices.disk.disk_after) o.stop crashes.stop) kept.each_moment kept.never_loses kept.every_crash kept.reads) (
           gains,
           of_day issuer asks plan line drains (around a) o agency,
           batches_of_day issuer asks plan line drains (around a) o agency,
@@ -139,7 +145,7 @@ module _ {D C Z G : Type 0} (chained : AreLinked) (a : AllDevices D C Z G)
     day_file rules script end good (inl h) =
         uncalled h.1.disk h.1.agency
     day_file rules script end good (inr (inl h)) =
-        not_opened chained issuer a.devices.disk Rest says h (nothing h.rest.agency)
+        not_opened chained issuer a.devices.disk (first_image says) Rest says h (nothing h.rest.agency)
     day_file rules script end good (inr (inr (inl h))) = no_day rules script.plan end h
     day_file rules script end good (inr (inr (inr h))) =
         a_day script.asks script.plan script.clock true h.outcome
@@ -149,7 +155,7 @@ module _ {D C Z G : Type 0} (chained : AreLinked) (a : AllDevices D C Z G)
     serve_left : (rules : IsTrue a.agency.kind.keeps_rules → IsTrue a.agency.kind.tells) (end : Detail) → ServeWays issuer a end →
         LeftBy issuer
     serve_left rules end (inl h) = uncalled h.2.disk h.2.agency
-    serve_left rules end (inr (inl h)) = not_opened chained issuer a.devices.disk Rest says h.1 (nothing h.1.rest.agency)
+    serve_left rules end (inr (inl h)) = not_opened chained issuer a.devices.disk (first_image says) Rest says h.1 (nothing h.1.rest.agency)
     serve_left rules end (inr (inr (line, inl h))) = no_day rules plain end h.shop
     serve_left rules end (inr (inr (line, inr h))) =
         let x = h.speech in
@@ -179,8 +185,8 @@ module _ {D C Z G : Type 0} (chained : AreLinked) (a : AllDevices D C Z G)
         let kept = d.kept says in
         let begins : IsPrefix h.start o.end = record { rest = d.notes.more; is = d.notes.is } in
         grown h.version h.start o.end o.torn (h.found says)
-        (goes_on chained issuer a.devices.disk h.version h.start o.end o.torn (h.found says) begins d.legal (one_at_most d.session)
-        d.torn_risen kept.each_moment kept.every_crash kept.reads) (
+        (goes_on chained issuer a.devices.disk (first_image says) h.version h.start o.end o.torn (h.found says) begins d.legal (one_at_most d.session)
+        d.torn_risen kept.each_moment kept.never_loses kept.every_crash kept.reads) (
           gains_notes a.devices.source h.start o.end d.notes,
           of_drain a.agency plan h.start exact moment o d.session,
           batches_of_drain a.agency plan h.start exact moment o begins d.session,
@@ -196,7 +202,7 @@ module _ {D C Z G : Type 0} (chained : AreLinked) (a : AllDevices D C Z G)
         NotOpened issuer (AllLeft a.devices.clock a.sleeper a.agency) a.devices.sink a.devices.disk end
         ⊎ FileDrained issuer plan exact moment a.devices.sink a.devices.disk a.agency end → LeftBy issuer
     drain_file plan exact moment end (inl n) =
-        not_opened chained issuer a.devices.disk Rest says n (nothing n.rest.agency)
+        not_opened chained issuer a.devices.disk (first_image says) Rest says n (nothing n.rest.agency)
     drain_file plan exact moment end (inr f) = drained plan exact moment end f
 
     drain_left : (end : Detail) → DrainEnds issuer a end → LeftBy issuer
@@ -216,7 +222,7 @@ module _ {D C Z G : Type 0} (chained : AreLinked) (a : AllDevices D C Z G)
   by_reading : a.devices.disk.on_disk a.devices.disk.disk_after ≡ a.devices.disk.on_disk a.devices.disk.disk → NobodyCalled a →
       FileKept None a
   by_reading same nobody = record {
-    sound = λ says version issuer start stands. grows version issuer start (stands_still chained a.devices.disk Rest version issuer start
+    sound = λ says version issuer start stands. grows version issuer start (stands_still chained a.devices.disk (first_image says) Rest version issuer start
         (inl (inl same)) (nothing nobody.agency) stands);
     fresh = λ says issuer writes none. absurd (let x = writes in cc);
     others = λ says other. inl (inl same);
@@ -227,13 +233,13 @@ module _ {D C Z G : Type 0} (chained : AreLinked) (a : AllDevices D C Z G)
   pub by_writing : OneHistory → NotBegunIsNeither → (issuer : List ℕ) → (IsTrue a.devices.disk.tells → LeftBy issuer) →
       FileKept (Some issuer) a
   by_writing one neither issuer left = record {
-    sound = λ says version other start stands. grows version other start (sound_of chained a.devices.disk Rest one neither issuer version other start
+    sound = λ says version other start stands. grows version other start (sound_of chained a.devices.disk (first_image says) Rest one neither issuer version other start
         (left says) stands);
     fresh = λ says other named none.
         let same : issuer ≡ other = (let x = named in cc) in
         subst (λ (i : List ℕ). Grows Two i [] a) same
-        (grows Two issuer [] (own_grown chained issuer a.devices.disk one neither Rest (left says) Two [] (inl (none, refl, refl))));
-    others = λ says other. others_of chained issuer a.devices.disk Rest (left says) other;
+        (grows Two issuer [] (own_grown chained issuer a.devices.disk (first_image says) one neither Rest (left says) Two [] (inl (none, refl, refl))));
+    others = λ says other. others_of chained issuer a.devices.disk (first_image says) Rest (left says) other;
     reads = λ none. absurd (let x = none in cc);
   }
 
@@ -259,10 +265,6 @@ module _ {D C Z G : Type 0} (chained : AreLinked) (a : AllDevices D C Z G)
   own_kept one neither rules (HelpOn topic) end h = by_reading (ap a.devices.disk.on_disk h.1.disk) h.2
   own_kept one neither rules Version end h = by_reading (ap a.devices.disk.on_disk h.1.disk) h.2
 
-  -- a disk reads as a crash may leave it
-  abbrev ReadsAnImage : Type 0
-  ReadsAnImage = (d : D) → IsTrue a.devices.disk.tells → IsImage (a.devices.disk.on_disk d).now (a.devices.disk.on_disk d).content
-
   -- by what the kinds of the devices tell
   module _ (d : disk.Ghosts D) (c : clock.Ghosts C) (z : sleeper.Ghosts Z) (g : agency.Ghosts G) where
     -- a command of one file, which left the further ones alone
@@ -285,31 +287,31 @@ module _ {D C Z G : Type 0} (chained : AreLinked) (a : AllDevices D C Z G)
     ManyKeeps f = (issuers : List (List ℕ)) (end : Detail) → ManyRan d c z g issuers a f end →
         FileKept (writes_for (Some (Many issuers))) a × OthersKept d c z g issuers a f
 
-    pub promised : ReadsAnImage → OneHistory → NotBegunIsNeither → (IsTrue a.agency.kind.keeps_rules → IsTrue a.agency.kind.tells) →
+    pub promised : OneHistory → NotBegunIsNeither → (IsTrue a.agency.kind.keeps_rules → IsTrue a.agency.kind.tells) →
         (words : List (List ℕ)) (f : Further D C Z G) (command : Command) (end : Detail) → ManyKeeps f → AsksFor words command →
         CommandEnds d c z g command a f end → Promise d c z g words a f
-    promised image one neither rules words f Migrate end many asked h =
+    promised one neither rules words f Migrate end many asked h =
         record { command = Some Migrate; asked = asked; file = by_reading h.reads.disk h.nobody; more = h.moves.only }
-    promised image one neither rules words f Follow end many asked h =
+    promised one neither rules words f Follow end many asked h =
         record { command = Some Follow; asked = asked; file = by_reading h.reads.disk h.nobody; more = h.follows.only }
-    promised image one neither rules words f (Guard issuer) end many asked h =
+    promised one neither rules words f (Guard issuer) end many asked h =
         let l = disk_of_post a.devices.disk h.post h.after in
         record {
           command = Some (Guard issuer);
           asked = asked;
-          file = by_writing one neither issuer (λ says. guard_left chained a agency_stays l (image h.post.disk) one neither issuer says end
+          file = by_writing one neither issuer (λ says. guard_left chained a agency_stays l (image h.post.disk) first_image one neither issuer says end
               h.ends);
           more = record {
             post = h.post;
             after = h.after;
             posts = h.posts;
-            guards = only_guarded chained a agency_stays l (image h.post.disk) one neither issuer end h.ends;
+            guards = only_guarded chained a agency_stays l (image h.post.disk) first_image one neither issuer end h.ends;
           };
         }
-    promised image one neither rules words f (Many issuers) end many asked h =
+    promised one neither rules words f (Many issuers) end many asked h =
         let kept = many issuers end h in
         record { command = Some (Many issuers); asked = asked; file = kept.0; more = kept.1 }
-    promised image one neither rules words f command end many asked h = others one neither rules words f command end asked h.0 h.1
+    promised one neither rules words f command end many asked h = others one neither rules words f command end asked h.0 h.1
 
     pub promised_nothing : (words : List (List ℕ)) (f : Further D C Z G) → IsAskedFor words None →
         a.devices.disk.on_disk a.devices.disk.disk_after ≡ a.devices.disk.on_disk a.devices.disk.disk → NobodyCalled a →

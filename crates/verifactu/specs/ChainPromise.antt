@@ -3,6 +3,7 @@ use Rattle.std.specs.Prelude.{◌≡◌, ◌⊎◌, ◌≤◌, ℕ, List, [], �
 use Rattle.chain_disk.specs.Disks.{DiskRose, Disks}
 use Rattle.chain_disk.specs.OnDisk.{IsLeft, IsSettled, IsSyncFailed, LeavesNow, LeavesOnly, OnDisk, moment, synced}
 use Rattle.record_fields.specs.declared.versions.Version.{Version}
+use Rattle.chain_store.specs.Losing.{NeverLoses}
 use Rattle.huella.specs.Linked.{Linked}
 use Rattle.record_codec.specs.declared.entry.Entry.{Entry}
 use Rattle.journal.specs.File.{closing_gate}
@@ -43,7 +44,7 @@ pub record AppendsOnly (version : Version) (issuer : List ℕ) (start : List Ent
 -- one at the start. The file stands for it, or for it with the one entry whose writing was under way when the disk failed. Each
 -- crash in the run leaves a front of that, no shorter than the history at the start: at every moment, where nothing was pending
 -- at the start, and otherwise since the first sync. Once the disk was synced each crash from now on leaves the whole history. The
--- file is append-only.
+-- file is append-only, and what was made sure of at any moment of the run stays.
 pub record ChainGoesOn {D : Type 0} (version : Version) (issuer : List ℕ) (start end torn : List Entry) (k : Disks D) : Type 0 where
   --= The chain that the file stood for is the beginning of the chain that it stands for afterwards.
   --= No body: an entry is added by `Journal::append` alone: `journal/append.appended`
@@ -72,6 +73,9 @@ pub record ChainGoesOn {D : Type 0} (version : Version) (issuer : List ℕ) (sta
   --= The file is append-only: the bytes before the closing gate that it had at the start are the first bytes of the
   --= file at the end, and of each that a crash leaves.
   pub append_only : AppendsOnly version issuer start (k.on_disk k.disk) (k.on_disk k.disk_after)
+  --= What was made sure of at any moment of the run stays: where all files that a crash may leave at one moment stand for histories
+  --= that begin with one, and hold the same bytes before its closing gate, all that a crash may leave at a later moment do too.
+  pub never_loses : NeverLoses (k.on_disk k.disk) (k.on_disk k.disk_after)
 
 -- What a run left is found again: the history that the next run finds begins with the one at the end, whether the torn entry
 -- lasted or not, and is of its version. Both the file and each file that a crash leaves from now on are such.

@@ -8,6 +8,7 @@ use Rattle.chain_disk.specs.Disks.{Disks, LeftDisk}
 use Rattle.chain_disk.specs.OnDisk.{IsSettled, LeavesOnly, OnDisk}
 use Rattle.chain_disk.specs.declared.disk.Disk as disk
 use Rattle.agency_port.specs.declared.agency.Agency as agency
+use Rattle.chain_store.specs.Losing.{NeverLoses}
 use Rattle.record_fields.specs.declared.versions.Version.{Version}
 use Rattle.record_codec.specs.declared.entry.Entry.{Entry}
 use Rattle.recovery.specs.Opening.{IsFound}
@@ -23,7 +24,7 @@ use Rattle.verifactu.specs.FilePromise.{FileKept, IsOwn}
 
 -- The copy (disk l) of a file (disk k) that stood for this history. Each crash since the start leaves what it left then, or a file
 -- that stands for what begins with the copy that was found and is a front of the history of the file at the end, with the entry whose
--- writing was under way.
+-- writing was under way. What was made sure of in the copy stays.
 pub record CopyGoesOn {D : Type 0} (version : Version) (issuer : List ℕ) (start : List Entry) (k l : Disks D) : Type 0 where
   pub end : List Entry
   pub torn : List Entry
@@ -32,6 +33,8 @@ pub record CopyGoesOn {D : Type 0} (version : Version) (issuer : List ℕ) (star
   --= No body: it is of `standby/IsPair.beside` and of `standby/Standby::arrive.arrives`
   pub images : IsTrue l.tells →
       LeavesOnly (l.on_disk l.disk) (l.on_disk l.disk_after) (IsFollowImage version issuer (end ++ torn) (l.on_disk l.disk))
+  --= What was made sure of in the copy at any moment of the run stays.
+  pub never_loses : IsTrue l.tells → NeverLoses (l.on_disk l.disk) (l.on_disk l.disk_after)
 
 -- A copy (disk l) that is written next to a file of this issuer (disk k). Where the file is no such one no call of the copy's disk
 -- is made.

@@ -1,5 +1,8 @@
 use Rattle.std.proofs.Common.{arith, inl, inr, subst, refl}
 use Rattle.chain_disk.specs.Disks.{this_disk}
+use Rattle.chain_disk.specs.OnDisk.{synced}
+use Rattle.chain_disk.specs.Stays.{run_of}
+use Rattle.chain_store.specs.Losing.{none_lost_since}
 use Rattle.chain_store.specs.Store.{state_of, journal_of, clock_of}
 use Rattle.file_commands.proofs.Bytewise.{took_nothing}
 use Rattle.journal.specs.Journal.{disk_of}
@@ -17,7 +20,7 @@ pub returns-in-Err : goal.returns-in-Err
 returns-in-Err g c =
     let fault = c.in-Err.fault in
     let h = c.in-Err.ensures in
-    inr (inl (not_opened fault.cause c.opening_end.ensures h.disk_fault h.left
+    inr (inl (not_opened fault.cause c.opening_end.ensures h.disk_fault h.left h.never_loses_err
     (took_nothing (g.K.Sink.taken c.args.sink.now))
     (not_asked (this_clock g.C.Clock.coming c.args.clock fault.clock) h.clock_err)))
 
@@ -59,6 +62,8 @@ returns-in-Ok g c =
     opened.later opened.found
     (λ says. found_since c.a_file_has_one_meaning.ensures.not_begun (state_of store).version issuer (state_of store).entries
     (on_disk c.args.disk) (on_disk (disk_of (journal_of store))) (opened.found says) (opened.any_moment says) (opened.unwritten says))
+    (λ says. none_lost_since (on_disk c.args.disk) (synced (on_disk c.args.disk)) (on_disk (disk_of (journal_of store)))
+    (opened.never_loses says) (omega arith) (run_of (opened.any_moment says)))
     (λ v n es f. record {
       found = f.found;
       left = f.left;

@@ -65,7 +65,7 @@ pub returns-in-Err : goal.returns-in-Err
 returns-in-Err g c =
     let u = c.in-Err.unopened in
     let h = c.in-Err.ensures in
-    inr (inl (not_opened u.why c.opening_end.ensures h.unopened.risen h.unopened.left_by
+    inr (inl (not_opened u.why c.opening_end.ensures h.unopened.risen h.unopened.left_by h.unopened.never_loses
     (took_nothing (g.K.Sink.taken c.args.sink.now)) (record { clock = h.left.0; sleeper = h.left.1; agency = h.left.2 })))
 
 pub returns-in-Err-begin : goal.returns-in-Err-begin

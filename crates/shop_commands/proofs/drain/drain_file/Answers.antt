@@ -23,7 +23,7 @@ returns-in-Err g c =
     let u = c.in-Err.unopened in
     let h = c.in-Err.ensures in
     record {
-      ends = inl (not_opened u.why c.opening_end.ensures h.unopened.risen h.unopened.left_by
+      ends = inl (not_opened u.why c.opening_end.ensures h.unopened.risen h.unopened.left_by h.unopened.never_loses
           (took_nothing (g.K.Sink.taken c.args.sink.now)) (record {
             clock = h.left.0;
             sleeper = h.left.1;
@@ -61,7 +61,7 @@ returns-in-Ok g c =
           (g.Z.Sleeper.moment out.sleeper) sink (disk_in g.D.Disk out then)
           (agency_in g.G.Agency out then) (state_of store).entries (g.D.Disk.on_disk (disk_of (journal_of store)))
           (g.D.Disk.faults (disk_of (journal_of store))) c.print_turns-detail.result h.issuer_is h.found h.any_moment
-          h.later (outcome_of end, drains, ended));
+          h.never_loses h.later (outcome_of end, drains, ended));
       clock = subst (λ (x : g.row.C.Denot). IsLater g.C.Clock.coming x then.clock) h.clock_is
           (subst (λ (y : g.row.C.Denot). IsLater g.C.Clock.coming (parts_of store).clock y) (sym c.close.ensures.clock)
           (not_later g.C.Clock.coming (clock_of store) (clock_of end.opened.store) c.drain_opened-answer.ensures.clock));

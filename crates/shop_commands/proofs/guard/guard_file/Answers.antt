@@ -25,7 +25,7 @@ returns-in-Err g c =
     let u = c.in-Err.unopened in
     let h = c.in-Err.ensures in
     record {
-      ends = inl (not_opened u.why c.opening_end.ensures h.unopened.risen h.unopened.left_by
+      ends = inl (not_opened u.why c.opening_end.ensures h.unopened.risen h.unopened.left_by h.unopened.never_loses
           (took_nothing (g.K.Sink.taken c.args.sink.now)) (
             record {
               clock = h.left.0;

@@ -33,7 +33,7 @@ returns-in-Err-clause-ends g c =
     c.args.post u.post in
     serve_ends c.args.issuer.now all c.opening_end.result (inr (inl (
       record { left = refl; faults = refl },
-      not_opened u.why c.opening_end.ensures h.unopened.risen h.unopened.left_by
+      not_opened u.why c.opening_end.ensures h.unopened.risen h.unopened.left_by h.unopened.never_loses
           (took_nothing (g.K.Sink.taken c.args.sink.now)) (record { clock = h.left.0; sleeper = h.left.1; agency = h.left.2 }),
     )))
 
@@ -57,6 +57,7 @@ returns-in-Ok-open-clause-ends g c =
       clock_is = refl;
       found = k.opened.found;
       any_moment = k.opened.any_moment;
+      never_loses = k.opened.never_loses;
       every_crash = k.opened.every_crash;
       later = k.opened.later;
     } in

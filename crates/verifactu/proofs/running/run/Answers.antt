@@ -23,12 +23,12 @@ returns-in-Some-clause-promise g c =
     (this_sink g.K.Sink.taken g.K.Sink.faults c.args.sink.now c.obey_first.new.sink) g.D.Disk g.C.Clock g.Z.Sleeper g.G.Agency
     (own_post c.args.outside) (own_post after) in
     promised c.legal_is_chained.ensures.linked a (λ same. ap (λ (x : g.row.G.Denot). agency_state_of g.G.Agency x) same)
-    g.D.Disk g.C.Clock g.Z.Sleeper g.G.Agency c.what_a_disk_reads_is_an_image.ensures
+    c.what_a_disk_reads_is_an_image.ensures g.D.Disk g.C.Clock g.Z.Sleeper g.G.Agency
     c.a_file_has_one_meaning.ensures.history c.a_file_has_one_meaning.ensures.not_begun c.who_keeps_the_rules_tells.ensures
     (map (string_bytes {Z = Global}) c.args.words.now) (further c.args.outside after) c.in-Some.command
     c.obey_first.result.0.detail (many_keeps c.legal_is_chained.ensures.linked c.a_history_notes_its_records.ensures
     c.a_file_has_one_meaning.ensures.history c.a_file_has_one_meaning.ensures.not_begun g.D.Disk g.C.Clock g.Z.Sleeper g.G.Agency
-    c.who_keeps_the_rules_tells.ensures a (further c.args.outside after)) c.in-Some.ensures c.obey_first.ensures.ends
+    c.who_keeps_the_rules_tells.ensures c.what_a_disk_reads_is_an_image.ensures a (further c.args.outside after)) c.in-Some.ensures c.obey_first.ensures.ends
 
 pub returns-in-Some-Migrate-clause-promise : goal.returns-in-Some-Migrate-clause-promise
 returns-in-Some-Migrate-clause-promise g c =
@@ -39,12 +39,12 @@ returns-in-Some-Migrate-clause-promise g c =
     (this_sink g.K.Sink.taken g.K.Sink.faults c.args.sink.now c.move_to_further.new.sink) g.D.Disk g.C.Clock g.Z.Sleeper
     g.G.Agency (own_post c.args.outside) (own_post after) in
     promised c.legal_is_chained.ensures.linked a (λ same. ap (λ (x : g.row.G.Denot). agency_state_of g.G.Agency x) same)
-    g.D.Disk g.C.Clock g.Z.Sleeper g.G.Agency c.what_a_disk_reads_is_an_image.ensures
+    c.what_a_disk_reads_is_an_image.ensures g.D.Disk g.C.Clock g.Z.Sleeper g.G.Agency
     c.a_file_has_one_meaning.ensures.history c.a_file_has_one_meaning.ensures.not_begun c.who_keeps_the_rules_tells.ensures
     words (further c.args.outside after) Migrate c.move_to_further.result.0.detail
     (many_keeps c.legal_is_chained.ensures.linked c.a_history_notes_its_records.ensures
     c.a_file_has_one_meaning.ensures.history c.a_file_has_one_meaning.ensures.not_begun g.D.Disk g.C.Clock g.Z.Sleeper g.G.Agency
-    c.who_keeps_the_rules_tells.ensures a (further c.args.outside after))
+    c.who_keeps_the_rules_tells.ensures c.what_a_disk_reads_is_an_image.ensures a (further c.args.outside after))
     (subst (λ (k : Command). AsksFor words k) c.in-Some-Migrate.field-0-is c.in-Some-Migrate.ensures)
     (record {
       moves = e.moves;
@@ -61,12 +61,12 @@ returns-in-Some-Follow-clause-promise g c =
     (this_sink g.K.Sink.taken g.K.Sink.faults c.args.sink.now c.follow_by_further.new.sink) g.D.Disk g.C.Clock g.Z.Sleeper
     g.G.Agency (own_post c.args.outside) (own_post after) in
     promised c.legal_is_chained.ensures.linked a (λ same. ap (λ (x : g.row.G.Denot). agency_state_of g.G.Agency x) same)
-    g.D.Disk g.C.Clock g.Z.Sleeper g.G.Agency c.what_a_disk_reads_is_an_image.ensures
+    c.what_a_disk_reads_is_an_image.ensures g.D.Disk g.C.Clock g.Z.Sleeper g.G.Agency
     c.a_file_has_one_meaning.ensures.history c.a_file_has_one_meaning.ensures.not_begun c.who_keeps_the_rules_tells.ensures
     words (further c.args.outside after) Follow c.follow_by_further.result.0.detail
     (many_keeps c.legal_is_chained.ensures.linked c.a_history_notes_its_records.ensures
     c.a_file_has_one_meaning.ensures.history c.a_file_has_one_meaning.ensures.not_begun g.D.Disk g.C.Clock g.Z.Sleeper g.G.Agency
-    c.who_keeps_the_rules_tells.ensures a (further c.args.outside after))
+    c.who_keeps_the_rules_tells.ensures c.what_a_disk_reads_is_an_image.ensures a (further c.args.outside after))
     (subst (λ (k : Command). AsksFor words k) c.in-Some-Follow.field-0-is c.in-Some-Follow.ensures)
     (record {
       follows = e.follows;
@@ -81,7 +81,7 @@ returns-in-None-clause-promise g c =
     (this_sink g.K.Sink.taken g.K.Sink.faults c.args.sink.now c.args.sink.now) g.D.Disk g.C.Clock g.Z.Sleeper g.G.Agency out
     out in
     promised_nothing c.legal_is_chained.ensures.linked a (λ same. ap (λ (x : g.row.G.Denot). agency_state_of g.G.Agency x) same)
-    g.D.Disk g.C.Clock g.Z.Sleeper g.G.Agency
+    c.what_a_disk_reads_is_an_image.ensures g.D.Disk g.C.Clock g.Z.Sleeper g.G.Agency
     (map (string_bytes {Z = Global}) c.args.words.now) (further c.args.outside c.args.outside) c.in-None.ensures refl
     (record { sleeper = refl; agency = refl }) refl
 
@@ -121,11 +121,11 @@ returns-in-Some-Many-clause-promise g c =
     (this_sink g.K.Sink.taken g.K.Sink.faults c.args.sink.now c.run_issuers.new.sink) g.D.Disk g.C.Clock g.Z.Sleeper
     g.G.Agency (own_post c.args.outside) (own_post after) in
     promised c.legal_is_chained.ensures.linked a (λ same. ap (λ (x : g.row.G.Denot). agency_state_of g.G.Agency x) same)
-    g.D.Disk g.C.Clock g.Z.Sleeper g.G.Agency c.what_a_disk_reads_is_an_image.ensures
+    c.what_a_disk_reads_is_an_image.ensures g.D.Disk g.C.Clock g.Z.Sleeper g.G.Agency
     c.a_file_has_one_meaning.ensures.history c.a_file_has_one_meaning.ensures.not_begun c.who_keeps_the_rules_tells.ensures
     words (further c.args.outside after) (Many c.as_slice.result.now) c.run_issuers.result.0.detail
     (many_keeps c.legal_is_chained.ensures.linked c.a_history_notes_its_records.ensures
     c.a_file_has_one_meaning.ensures.history c.a_file_has_one_meaning.ensures.not_begun g.D.Disk g.C.Clock g.Z.Sleeper g.G.Agency
-    c.who_keeps_the_rules_tells.ensures a (further c.args.outside after))
+    c.who_keeps_the_rules_tells.ensures c.what_a_disk_reads_is_an_image.ensures a (further c.args.outside after))
     (subst (λ (k : Command). AsksFor words k) (c.in-Some-Many.field-0-is ∙ ap Many (sym c.as_slice.ensures.all)) c.in-Some-Many.ensures)
     c.run_issuers.ensures.ends

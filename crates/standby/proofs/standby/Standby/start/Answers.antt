@@ -1,5 +1,6 @@
 use Rattle.std.proofs.Common.{◌≤◌, ◌∙◌, inl, sym, ap, subst, subst₂}
 use Rattle.chain_disk.specs.OnDisk.{LeavesOnly, synced}
+use Rattle.chain_store.specs.Losing.{NeverLoses}
 use Rattle.chain_store.specs.Opening.{IsCreation, IsFound, IsOnlySynced}
 use Rattle.journal.specs.Journal.{disk_of}
 use Rattle.record_fields.specs.declared.versions.Version.{Version}
@@ -37,6 +38,16 @@ returns-in-Ok-clause-any_moment g c = if_ok _ _ c.of_opened.result c.of_opened.e
     (IsFound version version c.args.issuer.now s.history.entries)) (sym h.1)
     (subst (λ (v : Version). LeavesOnly start (g.D.Disk.on_disk (disk_of c.in-Ok.opened.journal))
     (IsFound version v c.args.issuer.now c.in-Ok.opened.state.entries)) h.0 (c.in-Ok.ensures.any_moment tells)))
+
+pub returns-in-Ok-clause-never_loses : goal.returns-in-Ok-clause-never_loses
+returns-in-Ok-clause-never_loses g c = if_ok _ _ c.of_opened.result c.of_opened.ensures.same (λ standby h tells.
+    subst (λ (s : ChainOnDisk g.row.D.Denot). NeverLoses (g.D.Disk.on_disk c.args.disk) (g.D.Disk.on_disk s.disk)) (sym h.1)
+    (c.in-Ok.ensures.never_loses tells))
+
+pub returns-in-Ok-clause-never_loses_err : goal.returns-in-Ok-clause-never_loses_err
+returns-in-Ok-clause-never_loses_err g c = if_err _ _ c.of_opened.result c.of_opened.ensures.other (λ fault h tells.
+    subst (λ (d : g.row.D.Denot). NeverLoses (g.D.Disk.on_disk c.args.disk) (g.D.Disk.on_disk d)) (sym h.2)
+    (c.in-Ok.ensures.never_loses tells))
 
 pub returns-in-Ok-clause-unwritten : goal.returns-in-Ok-clause-unwritten
 returns-in-Ok-clause-unwritten g c = if_ok _ _ c.of_opened.result c.of_opened.ensures.same (λ standby h tells.

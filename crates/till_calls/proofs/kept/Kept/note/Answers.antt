@@ -21,6 +21,7 @@ facts g c =
       same = e.same;
       clock = e.clock;
       any_moment = e.any_moment (sym c.in_default.ensures);
+      never_loses = e.never_loses;
       acknowledged = e.acknowledged;
       going_on = e.going_on;
       no_memory = λ none. (ap (λ j. disk_of j) (e.no_memory none), ap (λ j. stopped_of j) (e.no_memory none));

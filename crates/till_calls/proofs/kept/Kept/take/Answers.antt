@@ -17,6 +17,7 @@ facts g c =
       legal = subst (λ (h : History). Legal h.version h.issuer h.entries) c.state.ensures c.is_legal.ensures;
       takes = e.takes;
       torn = e.torn;
+      never_loses = e.never_loses;
       acknowledged = e.acknowledged;
       going_on = e.going_on;
       no_memory = λ none. (ap (λ j. disk_of j) (e.no_memory none), ap (λ j. stopped_of j) (e.no_memory none));
