@@ -78,20 +78,21 @@ not_opened_second created issuer opening.NoMemory first second second_new left =
 pub not_started_second : NotBegunIsNeither → (version : Version) (issuer : List ℕ) (cause : StandbyCause) (entries : List Entry)
     (first first_new second second_new : OnDisk) → IsLeftUnstarted version issuer cause second second_new →
     GoesUp version issuer entries entries first first_new → ((IsNotBegun second.content → ⊥) → first_new ≡ synced first) →
+    (IsNotBegun first.content → IsNotBegun second.content) →
     IsNotLevel issuer (started_cause Second cause) first second first_new second_new
-not_started_second neither version issuer starting.DiskFault entries first first_new second second_new left goes unwritten = record {
+not_started_second neither version issuer starting.DiskFault entries first first_new second second_new left goes unwritten alike = record {
   first_left = stayed version entries goes;
   second_left = lost version left;
   reason = tt;
   refused = λ none. absurd none;
 }
-not_started_second neither version issuer (starting.Damaged at) entries first first_new second second_new left goes unwritten = record {
+not_started_second neither version issuer (starting.Damaged at) entries first first_new second second_new left goes unwritten alike = record {
   first_left = stayed version entries goes;
   second_left = only_synced left.1;
   reason = left.0;
   refused = λ is. (inr (unwritten (λ not. (neither version issuer [] second.content at not).1 left.0)), inr left.1);
 }
-not_started_second neither version issuer (starting.OtherIssuer held) entries first first_new second second_new left goes unwritten = record {
+not_started_second neither version issuer (starting.OtherIssuer held) entries first first_new second second_new left goes unwritten alike = record {
   first_left = stayed version entries goes;
   second_left = only_synced left.1;
   reason = left.0;
@@ -100,16 +101,24 @@ not_started_second neither version issuer (starting.OtherIssuer held) entries fi
     inr left.1,
   );
 }
-not_started_second neither version issuer (starting.OtherVersion held) entries first first_new second second_new left goes unwritten = record {
+not_started_second neither version issuer (starting.OtherVersion held) entries first first_new second second_new left goes unwritten alike = record {
   first_left = stayed version entries goes;
   second_left = only_synced left.1;
-  reason = (version, left.0);
+  reason = record {
+    version = version;
+    entries = entries;
+    first_is = elim goes.found [
+      | inl not ↦ absurd ((neither held issuer left.0.entries second.content 0 (alike not.0)).0 left.0.stands)
+      | inr stands ↦ stands
+    ];
+    second_is = left.0;
+  };
   refused = λ is. (
     inr (unwritten (λ not. (neither held issuer left.0.entries second.content 0 not).0 left.0.stands)),
     inr left.1,
   );
 }
-not_started_second neither version issuer starting.NoMemory entries first first_new second second_new left goes unwritten = record {
+not_started_second neither version issuer starting.NoMemory entries first first_new second second_new left goes unwritten alike = record {
   first_left = stayed version entries goes;
   second_left = only_synced left;
   reason = tt;

@@ -18,6 +18,7 @@ use Rattle.shop_core.specs.Legal.{Legal}
 use Rattle.standby.specs.Chains.{ChainOnDisk}
 use Rattle.second_disk.specs.Causes.{tail_cause}
 use Rattle.second_disk.specs.Opened.{IsTailReason, StaysWhole}
+use Rattle.second_disk.specs.declared.causes.LevelCause.TheVariants.{OtherGate}
 
 pub at_some : (history : History) (gate : ℕ) (t : OnDisk) → Holds history gate t → IsAtSome gate t
 at_some history gate t holds = ∣ (history.version, history.issuer, bodies_of history.version history.entries, holds.file) ∣₁
@@ -71,8 +72,18 @@ both_held {D = D} {M = M} on_disk others a b first second gate f s n version iss
       subst₂ (λ (d : M) (m : ℕ). Holds a.history m (others d)) (sym s) (place ∙ sym n) same,
     )
 
-pub tail_reason : (fault : TailFault) (first second : OnDisk) (gate : ℕ) →
-    (fault ≡ tail.OtherGate → HaveOneByte first.content second.content gate false) → IsTailReason (tail_cause fault) first second
-tail_reason tail.First first second gate other = tt
-tail_reason tail.Second first second gate other = tt
-tail_reason tail.OtherGate first second gate other = (gate, other refl)
+pub tail_reason : (history : History) (fault : TailFault) (first second : OnDisk) →
+    (fault ≡ tail.OtherGate → IsTailReason history OtherGate first second) → IsTailReason history (tail_cause fault) first second
+tail_reason history tail.First first second other = tt
+tail_reason history tail.Second first second other = tt
+tail_reason history tail.OtherGate first second other = other refl
+
+-- both files as they were, with different bytes at their gates
+pub other_gates : (history : History) (gate : ℕ) (t u : OnDisk) → Holds history gate t → Holds history gate u →
+    Legal history.version history.issuer history.entries → HaveOneByte t.content u.content gate false →
+    IsTailReason history OtherGate t u
+other_gates history gate t u first second legal gates = (
+  stands_by history gate t t first legal first.file,
+  stands_by history gate u u second legal second.file,
+  subst (λ (n : ℕ). HaveOneByte t.content u.content n false) first.file.place gates,
+)

@@ -122,6 +122,17 @@ begun_by_entry neither created version issuer entries file (inl not) some none =
 begun_by_entry neither created version issuer entries file (inr stands) some none =
     (neither version issuer entries file 0 none).0 stands
 
+-- what is found in a file that isn't begun
+pub found_new : NotBegunIsNeither → (created version : Version) (issuer : List ℕ) (entries : List Entry) (file : List ℕ) →
+    IsFound created version issuer entries file → IsNotBegun file → (entries ≡ []) × (version ≡ created)
+found_new neither created version issuer entries file (inl not) none = (not.1, not.2)
+found_new neither created version issuer entries file (inr stands) none =
+    absurd ((neither version issuer entries file 0 none).0 stands)
+
+pub no_entry : (entries : List Entry) → length entries ≤ 0 → entries ≡ []
+no_entry [] few = refl
+no_entry (x ∷ xs) few = absurd (omega (arith, few))
+
 pub if_ok : {T E : Type 0} {P Q : T → Type 0} (r : Result T E) → IfOk r P → ((v : T) → P v → Q v) → IfOk r Q
 if_ok (Ok v) is then = then v is
 if_ok (Err e) is then = tt

@@ -24,7 +24,7 @@ abbrev pub started_cause : Half → StandbyCause → LevelCause
 started_cause half starting.DiskFault = DiskFault half
 started_cause half (starting.Damaged at) = Damaged half at
 started_cause half (starting.OtherIssuer held) = OtherIssuer half held
-started_cause half (starting.OtherVersion held) = OtherVersion half held
+started_cause half (starting.OtherVersion held) = OtherVersion held
 started_cause half starting.NoMemory = NoMemory
 
 -- of bytes behind the closing gates that weren't made equal

@@ -4,11 +4,11 @@ use Rattle.chain_disk.specs.Disks.{Disks, DiskRose}
 use Rattle.chain_disk.specs.OnDisk.{OnDisk, IsSettled, LeavesOnly, synced}
 use Rattle.chain_store.specs.Crashes.{StandsBetween}
 use Rattle.chain_store.specs.Opening.{IsDiskLost, IsOthers}
-use Rattle.journal.specs.File.{IsNotBegun}
+use Rattle.journal.specs.File.{IsNotBegun, closing_gate}
 use Rattle.journal.specs.Tails.{HaveOneByte}
 use Rattle.record_codec.specs.declared.entry.Entry.{Entry}
 use Rattle.record_fields.specs.declared.versions.Version.{Version}
-use Rattle.shop_core.specs.File.Files.{IsDamagedFile, StandsFor}
+use Rattle.shop_core.specs.File.Files.{IsDamagedFile, StandsFor, bodies_of}
 use Rattle.shop_core.specs.Prefix.{IsPrefix}
 use Rattle.standby.specs.Catching.{IsFirstApart}
 use Rattle.standby.specs.Starting.{IsOtherVersion}
@@ -38,8 +38,9 @@ FirstEnd start other end = (end ≡ start) ⊎ ((entry : Entry) × (other ≡ st
 abbrev pub SecondEnd : List Entry → List Entry → List Entry → Type 0
 SecondEnd start other end = (end ≡ start) ⊎ (IsPrefix start other × (end ≡ other))
 
--- Both hold one history now, with the same bytes and nothing pending.
-pub record IsLevel (issuer : List ℕ) (first second first_new second_new : OnDisk) : Type 0 where
+-- Both hold one history now, with the same bytes and nothing pending. What isn't begun is begun in the other one's version, or in this
+-- one where neither is begun; and the second one has no entry where the first isn't begun.
+pub record IsLevel (created : Version) (issuer : List ℕ) (first second first_new second_new : OnDisk) : Type 0 where
   pub version : Version
   pub held : List Entry
   pub others : List Entry
@@ -48,6 +49,8 @@ pub record IsLevel (issuer : List ℕ) (first second first_new second_new : OnDi
   pub second_end : SecondEnd others held entries
   pub first_goes : GoesUp version issuer held entries first first_new
   pub second_goes : GoesUp version issuer others entries second second_new
+  pub not_begun : IsNotBegun first.content → others ≡ []
+  pub both_not_begun : IsNotBegun first.content → IsNotBegun second.content → version ≡ created
   --= Two files of one chain that were brought level stand for it, the longer of the two.
   --= No body: none is written yet
   pub stands : StandsFor version issuer entries first_new.content
@@ -77,6 +80,21 @@ pub record HoldBoth (issuer first second : List ℕ) (P : List Entry → List En
   pub second_is : IsHeld version issuer others second
   pub so : P held others
 
+-- the first file stands for a chain of this issuer, and the second one for one of the issuer in this version, which is another
+pub record AreOfTwoVersions (issuer : List ℕ) (held : Version) (first second : List ℕ) : Type 0 where
+  pub version : Version
+  pub entries : List Entry
+  pub first_is : StandsFor version issuer entries first
+  pub second_is : IsOtherVersion version held issuer second
+
+-- both files stand for one history, with different bytes at its closing gate
+pub record HaveOtherGates (issuer first second : List ℕ) : Type 0 where
+  pub version : Version
+  pub entries : List Entry
+  pub first_is : StandsFor version issuer entries first
+  pub second_is : StandsFor version issuer entries second
+  pub gates : HaveOneByte first second (closing_gate (bodies_of version entries)) false
+
 -- What the two files are, by the cause; of gates that differ, what they are by then.
 abbrev pub IsReason : List ℕ → LevelCause → OnDisk → OnDisk → OnDisk → OnDisk → Type 0
 IsReason issuer (DiskFault half) first second first_new second_new = Unit {0}
@@ -84,10 +102,7 @@ IsReason issuer (Damaged First at) first second first_new second_new = IsDamaged
 IsReason issuer (Damaged Second at) first second first_new second_new = IsDamagedFile second.content at
 IsReason issuer (OtherIssuer First held) first second first_new second_new = IsOthers issuer held first.content
 IsReason issuer (OtherIssuer Second held) first second first_new second_new = IsOthers issuer held second.content
-IsReason issuer (OtherVersion First held) first second first_new second_new =
-    (version : Version) × IsOtherVersion version held issuer first.content
-IsReason issuer (OtherVersion Second held) first second first_new second_new =
-    (version : Version) × IsOtherVersion version held issuer second.content
+IsReason issuer (OtherVersion held) first second first_new second_new = AreOfTwoVersions issuer held first.content second.content
 IsReason issuer NotBegun first second first_new second_new =
     HoldBoth issuer first.content second.content (λ held others. IsNotBegun first.content × (0 < length others))
 IsReason issuer (Differs entry) first second first_new second_new =
@@ -95,8 +110,7 @@ IsReason issuer (Differs entry) first second first_new second_new =
 IsReason issuer (Ahead entry) first second first_new second_new =
     HoldBoth issuer first.content second.content
     (λ held others. IsPrefix held others × (entry ≡ length held) × (entry + 2 ≤ length others))
-IsReason issuer OtherGate first second first_new second_new =
-    (gate : ℕ) × HaveOneByte first_new.content second_new.content gate false
+IsReason issuer OtherGate first second first_new second_new = HaveOtherGates issuer first_new.content second_new.content
 IsReason issuer NoMemory first second first_new second_new = Unit {0}
 
 -- a refusal by what the files hold before anything is written

@@ -1,9 +1,11 @@
 -- Two files, opened.
-use Rattle.std.specs.Prelude.{◌≡◌, ◌<◌, ◌+◌, ◌≤◌, ℕ, List, length, Bool, false, None}
+use Rattle.std.specs.Prelude.{◌≡◌, ◌<◌, ◌+◌, ◌≤◌, ℕ, List, [], length, Bool, false, None}
 use Rattle.chain_disk.specs.OnDisk.{OnDisk, IsSettled, LeavesOnly, synced}
+use Rattle.journal.specs.File.{IsNotBegun, closing_gate}
 use Rattle.journal.specs.Tails.{HaveOneByte}
 use Rattle.record_codec.specs.declared.entry.Entry.{Entry}
-use Rattle.shop_core.specs.File.Files.{StandsFor}
+use Rattle.record_fields.specs.declared.versions.Version.{Version}
+use Rattle.shop_core.specs.File.Files.{StandsFor, bodies_of}
 use Rattle.shop_core.specs.History.{History}
 use Rattle.shop_core.specs.Prefix.{IsPrefix}
 use Rattle.standby.specs.Catching.{IsFirstApart}
@@ -13,12 +15,14 @@ use Rattle.second_disk.specs.Level.{FirstEnd, GoesUp, SecondEnd}
 use Rattle.second_disk.specs.declared.causes.LevelCause.{LevelCause}
 use Rattle.second_disk.specs.declared.causes.LevelCause.TheVariants.{DiskFault, Damaged, OtherIssuer, OtherVersion, NotBegun, Differs, Ahead, OtherGate, NoMemory}
 
--- what their disks tell of it: where the second one has an entry, nothing was written
-pub record AreFound (issuer : List ℕ) (first second first_new second_new : OnDisk) {D M : Type 0} (a : ChainOnDisk D)
-    (b : ChainOnDisk M) : Type 0 where
+-- What their disks tell of it. Where the second one has an entry, nothing was written.
+pub record AreFound (created : Version) (issuer : List ℕ) (first second first_new second_new : OnDisk) {D M : Type 0}
+    (a : ChainOnDisk D) (b : ChainOnDisk M) : Type 0 where
   pub first_goes : GoesUp a.history.version issuer a.history.entries a.history.entries first first_new
   pub second_goes : GoesUp a.history.version issuer b.history.entries b.history.entries second second_new
   pub unwritten : 0 < length b.history.entries → (first_new ≡ synced first) × (second_new ≡ synced second)
+  pub not_begun : IsNotBegun first.content → b.history.entries ≡ []
+  pub both_not_begun : IsNotBegun first.content → IsNotBegun second.content → a.history.version ≡ created
 
 -- both go on, with chains of one issuer and version
 pub record GoTogether {D M : Type 0} (issuer : List ℕ) (a : ChainOnDisk D) (b : ChainOnDisk M) : Type 0 where
@@ -72,13 +76,17 @@ pub record IsMirrored (history : History) (first second first_new second_new : O
   pub first_settled : IsSettled first_new
   pub second_settled : IsSettled second_new
 
-abbrev pub IsTailReason : LevelCause → OnDisk → OnDisk → Type 0
-IsTailReason (DiskFault half) first second = Unit {0}
-IsTailReason OtherGate first second = (gate : ℕ) × HaveOneByte first.content second.content gate false
-IsTailReason _ first second = ⊥
+-- why they were not made a mirror
+abbrev pub IsTailReason : History → LevelCause → OnDisk → OnDisk → Type 0
+IsTailReason history (DiskFault half) first second = Unit {0}
+IsTailReason history OtherGate first second =
+    StandsFor history.version history.issuer history.entries first.content
+    × StandsFor history.version history.issuer history.entries second.content
+    × HaveOneByte first.content second.content (closing_gate (bodies_of history.version history.entries)) false
+IsTailReason history _ first second = ⊥
 
 -- both files held this history at each moment; the cause is a fault of a disk, or gates that differ
 pub record IsUnmirrored (history : History) (cause : LevelCause) (first second first_new second_new : OnDisk) : Type 0 where
   pub first_whole : StaysWhole history first first_new
   pub second_whole : StaysWhole history second second_new
-  pub reason : IsTailReason cause first_new second_new
+  pub reason : IsTailReason history cause first_new second_new

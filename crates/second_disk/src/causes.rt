@@ -24,8 +24,8 @@ pub enum LevelCause {
     Damaged { half: Half, at: u64 },
     /// This file is sound and holds the chain of another issuer.
     OtherIssuer { half: Half, held: Nif },
-    /// This file is sound and holds this issuer's chain in another version than the other file.
-    OtherVersion { half: Half, held: Version },
+    /// Both files are sound and hold chains of this issuer, the second one in this version and the first one in another.
+    OtherVersion { held: Version },
     /// The first file isn't begun, and the second one has entries.
     NotBegun,
     /// The second file has another entry than the first one at this index, from 0.
@@ -57,7 +57,7 @@ pub(crate) fn started_cause(half: Half, cause: StandbyCause) -> LevelCause
         StandbyCause::DiskFault => LevelCause::DiskFault { half },
         StandbyCause::Damaged { at } => LevelCause::Damaged { half, at },
         StandbyCause::OtherIssuer { held } => LevelCause::OtherIssuer { half, held },
-        StandbyCause::OtherVersion { held } => LevelCause::OtherVersion { half, held },
+        StandbyCause::OtherVersion { held } => LevelCause::OtherVersion { held },
         StandbyCause::NoMemory => LevelCause::NoMemory,
     }
 }

@@ -92,6 +92,8 @@ fn mirror_of<D: Disk, M: Disk>(
     requires entries { second.history.entries ≡ first.history.entries }
     ensures mirrored { IfOk result (λ mirror. IsTrue D.tells → IsTrue M.tells →
         IsMirrored first.history (D.on_disk first.disk) (M.on_disk second.disk) (D.on_disk mirror.first) (M.on_disk mirror.second)) }
+    ensures told { IfOk result (λ mirror. IsTrue D.tells →
+        told D.on_disk M.on_disk mirror ≡ fresh (D.on_disk mirror.first).content) }
     ensures made { IfOk result (λ mirror. (mirror.standing ≡ Whole) × (mirror.first_made ≡ mirror.first)
         × (mirror.second_made ≡ mirror.second)) }
     ensures left { IfErr result (λ fault. IsTrue D.tells → IsTrue M.tells →
@@ -129,10 +131,12 @@ pub fn level<D: Disk, M: Disk>(
     created: Version,
 ) -> Result<MirrorDisk<D, M>, NotLevel<D, M>>
     requires alike { D.tells ≡ M.tells }
-    ensures level { IfOk result (λ mirror. IsTrue D.tells → IsTrue M.tells → IsLevel issuer.now
+    ensures level { IfOk result (λ mirror. IsTrue D.tells → IsTrue M.tells → IsLevel created issuer.now
         (D.on_disk first) (M.on_disk second) (D.on_disk mirror.first) (M.on_disk mirror.second)) }
 
-    // So it tells what both halves hold, at moment 0, with nothing pending.
+    // The mirror tells what both halves hold, at moment 0, with nothing pending.
+    ensures told { IfOk result (λ mirror. IsTrue D.tells →
+        told D.on_disk M.on_disk mirror ≡ fresh (D.on_disk mirror.first).content) }
     ensures made { IfOk result (λ mirror. (mirror.standing ≡ Whole) × (mirror.first_made ≡ mirror.first)
         × (mirror.second_made ≡ mirror.second)) }
     ensures left { IfErr result (λ fault. IsTrue D.tells → IsTrue M.tells → IsNotLevel issuer.now fault.cause

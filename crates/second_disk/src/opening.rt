@@ -49,7 +49,7 @@ fn open_first<D: Disk, M: Disk>(
 ) -> Result<Both<D, M>, NotLevel<D, M>>
     requires { IsTrue D.tells → IsTrue M.tells → IsNotBegun (D.on_disk first).content → IsNotBegun (M.on_disk second).content }
     ensures together { IfOk result (λ both. GoTogether issuer.now both.first both.second) }
-    ensures found { IfOk result (λ both. IsTrue D.tells → IsTrue M.tells → AreFound issuer.now
+    ensures found { IfOk result (λ both. IsTrue D.tells → IsTrue M.tells → AreFound created issuer.now
         (D.on_disk first) (M.on_disk second) (D.on_disk both.first.disk) (M.on_disk both.second.disk) both.first both.second) }
     ensures later { IfOk result (λ both. (D.faults first ≤ D.faults both.first.disk) × (M.faults second ≤ M.faults both.second.disk)) }
     ensures left { IfErr result (λ fault. IsTrue D.tells → IsTrue M.tells → IsNotLevel issuer.now fault.cause
@@ -87,7 +87,7 @@ fn open_second<D: Disk, M: Disk>(
     requires first { IsTrue D.tells → IsNotBegun (D.on_disk first).content }
     requires second { IsTrue M.tells → IsNotBegun (M.on_disk second).content → ⊥ }
     ensures together { IfOk result (λ both. GoTogether issuer.now both.first both.second) }
-    ensures found { IfOk result (λ both. IsTrue D.tells → IsTrue M.tells → AreFound issuer.now
+    ensures found { IfOk result (λ both. IsTrue D.tells → IsTrue M.tells → AreFound created issuer.now
         (D.on_disk first) (M.on_disk second) (D.on_disk both.first.disk) (M.on_disk both.second.disk) both.first both.second) }
     ensures later { IfOk result (λ both. (D.faults first ≤ D.faults both.first.disk) × (M.faults second ≤ M.faults both.second.disk)) }
     ensures left { IfErr result (λ fault. IsTrue D.tells → IsTrue M.tells → IsNotLevel issuer.now fault.cause
@@ -132,7 +132,7 @@ pub(crate) fn open_both<D: Disk, M: Disk>(
     created: Version,
 ) -> Result<Both<D, M>, NotLevel<D, M>>
     ensures together { IfOk result (λ both. GoTogether issuer.now both.first both.second) }
-    ensures found { IfOk result (λ both. IsTrue D.tells → IsTrue M.tells → AreFound issuer.now
+    ensures found { IfOk result (λ both. IsTrue D.tells → IsTrue M.tells → AreFound created issuer.now
         (D.on_disk first) (M.on_disk second) (D.on_disk both.first.disk) (M.on_disk both.second.disk) both.first both.second) }
     ensures later { IfOk result (λ both. (D.faults first ≤ D.faults both.first.disk) × (M.faults second ≤ M.faults both.second.disk)) }
     ensures left { IfErr result (λ fault. IsTrue D.tells → IsTrue M.tells → IsNotLevel issuer.now fault.cause

@@ -1,12 +1,13 @@
 use Rattle.std.proofs.Common.{◌≡◌, ◌∙◌, List, Bool, IsTrue, Result, Err, false, refl, sym, ap, subst, subst₂}
+use Rattle.chain_disk.specs.Memory.{fresh}
 use Rattle.chain_disk.specs.OnDisk.{OnDisk}
-use Rattle.journal.specs.Tails.{HaveOneByte}
 use Rattle.journal.specs.declared.tails.TailFault.{TailFault}
 use Rattle.mirror_disk.specs.Mirror.{Mirrored}
 use Rattle.shop_core.specs.File.Files.{bodies_of}
-use Rattle.second_disk.specs.Opened.{IsMirrored, IsUnmirrored, StaysWhole}
+use Rattle.second_disk.specs.Opened.{IsMirrored, IsTailReason, IsUnmirrored, StaysWhole}
 use Rattle.second_disk.specs.declared.causes.LevelCause.{LevelCause}
-use Rattle.second_disk.proofs.Mirrored.{at_some, both_held, one_front, stands_by, stays_whole, tail_reason}
+use Rattle.second_disk.specs.declared.causes.LevelCause.TheVariants.{OtherGate}
+use Rattle.second_disk.proofs.Mirrored.{at_some, both_held, one_front, other_gates, stands_by, stays_whole, tail_reason}
 use Rattle.second_disk.proofs.levelling.mirror_of.Goals as goal
 
 pub make_tails_equal-requires-clause-first : goal.make_tails_equal-requires-clause-first
@@ -103,9 +104,14 @@ returns-in-Err-clause-left g c = λ tells others.
           c.into_disk-first.ensures.disk (stays_whole a.history c.gate-gate.result _ _ held.0 c.is_sound.ensures.legal (c.in-Err.ensures.first tells));
       second_whole = subst (λ (d : g.row.M.Denot). StaysWhole a.history (g.M.Disk.on_disk d) (g.M.Disk.on_disk c.make_tails_equal.new.second))
           c.into_disk-second.ensures.disk (stays_whole a.history c.gate-gate.result _ _ held.1 c.is_sound.ensures.legal (c.in-Err.ensures.second others));
-      reason = tail_reason c.in-Err.fault new last c.gate-gate.result (λ is.
+      reason = tail_reason a.history c.in-Err.fault new last (λ is.
           let gates = c.in-Err.ensures.other_gate
           (ap (λ (f : TailFault). let r : Result (Unit {0}) TailFault = Err f in r) is) in
-          subst₂ (λ (t u : OnDisk). HaveOneByte t.content u.content c.gate-gate.result false) (sym gates.0) (sym gates.1)
-          (gates.2 tells others));
+          subst₂ (λ (t u : OnDisk). IsTailReason a.history OtherGate t u) (sym gates.0) (sym gates.1)
+          (other_gates a.history c.gate-gate.result _ _ held.0 held.1 c.is_sound.ensures.legal (gates.2 tells others)));
     })
+
+pub returns-in-Ok-clause-told : goal.returns-in-Ok-clause-told
+returns-in-Ok-clause-told g c = λ tells.
+    c.of.ensures.told tells ∙ ap (λ (m : Mirrored g.row.D.Denot g.row.M.Denot). fresh (g.D.Disk.on_disk m.first).content)
+    (sym c.of.ensures.made)

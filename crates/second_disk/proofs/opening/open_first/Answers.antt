@@ -6,7 +6,7 @@ use Rattle.standby.specs.Starting.{IsLeftUnstarted}
 use Rattle.second_disk.specs.Level.{IsNotLevel}
 use Rattle.second_disk.specs.declared.causes.LevelCause.{LevelCause}
 use Rattle.second_disk.proofs.Left.{not_opened_first, not_started_second}
-use Rattle.second_disk.proofs.Ups.{begun_by_entry, opened_goes}
+use Rattle.second_disk.proofs.Ups.{begun_by_entry, found_new, opened_goes}
 use Rattle.second_disk.proofs.opening.open_first.Goals as goal
 
 pub returns-in-Err-clause-left : goal.returns-in-Err-clause-left
@@ -34,7 +34,7 @@ returns-in-Err-start-clause-left g c = λ tells others.
     (sym c.started_cause.ensures) (sym c.into_disk.ensures.disk)
     (not_started_second c.a_file_has_one_meaning.ensures.not_begun version c.args.issuer.now c.in-Err-start.field-0.cause
     opened.history.entries first new second last left goes
-    (λ begun. c.in-Ok.ensures.unwritten tells (λ not. begun (c.requires tells others not))))
+    (λ begun. c.in-Ok.ensures.unwritten tells (λ not. begun (c.requires tells others not))) (c.requires tells others))
 
 pub returns-in-Ok-start-clause-found : goal.returns-in-Ok-start-clause-found
 returns-in-Ok-start-clause-found g c = λ tells others.
@@ -59,4 +59,8 @@ returns-in-Ok-start-clause-found g c = λ tells others.
             c.in-Ok.ensures.unwritten tells (λ not. begun (c.requires tells others not)),
             c.in-Ok-start.ensures.unwritten others begun,
           );
+      not_begun = λ not. (found_new c.a_file_has_one_meaning.ensures.not_begun a.history.version a.history.version c.args.issuer.now
+          b.history.entries second.content found (c.requires tells others not)).0;
+      both_not_begun = λ not none. (found_new c.a_file_has_one_meaning.ensures.not_begun c.args.created a.history.version
+          c.args.issuer.now a.history.entries first.content (c.in-Ok.ensures.found tells) not).1;
     }

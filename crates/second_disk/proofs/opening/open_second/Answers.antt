@@ -6,7 +6,7 @@ use Rattle.second_disk.specs.Level.{GoesUp, IsNotLevel}
 use Rattle.second_disk.specs.Level.HalfLeft.{not_called, only_synced}
 use Rattle.second_disk.specs.declared.causes.LevelCause.{LevelCause}
 use Rattle.second_disk.proofs.Left.{not_opened_second, not_started_first}
-use Rattle.second_disk.proofs.Ups.{found_held, opened_goes}
+use Rattle.second_disk.proofs.Ups.{found_held, no_entry, opened_goes}
 use Rattle.second_disk.proofs.opening.open_second.Goals as goal
 
 pub returns-then-entries-gt0-clause-left : goal.returns-then-entries-gt0-clause-left
@@ -72,4 +72,6 @@ returns-in-Ok-start-clause-found g c = λ tells others.
           (sym (own ∙ other)) (opened_goes c.args.created b.history.version c.args.issuer.now b.history.entries second last
           (c.in-Ok.ensures.found others) (c.in-Ok.ensures.any_moment others));
       unwritten = λ some. absurd (omega (arith, some, count, c.if-entries-gt0.false));
+      not_begun = λ not. no_entry b.history.entries (omega (arith, count, c.if-entries-gt0.false));
+      both_not_begun = λ not none. absurd (c.requires.second others none);
     }
