@@ -4,6 +4,7 @@
 const EVERY = 5000; // milliseconds from one look to the next
 const SUMS_EVERY = 30000; // milliseconds from one look at the sums to the next, at least
 const GONE_AFTER = 35000; // milliseconds until the hub counts as gone
+const PAGE = 50; // refused records that are shown at once
 const LATE = 600000; // milliseconds without a word of the agency after which what waits is marked
 
 const STATES = {
@@ -12,7 +13,8 @@ const STATES = {
 };
 const REFUSED = ["vet", "held", "not-held", "gone"];
 const WHAT_TO_DO = {
-  vet: "Busque el código en la lista de errores de la Agencia. Corrija los datos de la factura en la caja (subsanación), o anúlela.",
+  vet: "Busque el código en la lista de errores de la Agencia. Si lo que se entregó es correcto, subsane el registro en la caja; si está mal, expida una factura rectificativa.",
+  "con-errores": "Busque el código en la lista de errores de la Agencia. Si lo que se entregó es correcto, subsane el registro en la caja; si está mal, expida una factura rectificativa.",
   held: "La Agencia ya tiene esta factura. Avise a su técnico antes de hacer nada con ella.",
   "not-held": "La Agencia no tiene la factura que se corrige o se anula. Avise a su técnico.",
   gone: "La Agencia tiene esta factura como anulada. Avise a su técnico.",
@@ -32,6 +34,8 @@ let mark = ""; // the counts and the day that the sums were asked for
 let summed = 0; // when the sums were asked
 let timer = null;
 let isLooking = false;
+let refused = []; // as the hub told them last
+let firstRefused = 0; // the first of them that is shown
 
 function element(name, text, className) {
   const made = document.createElement(name);
@@ -67,6 +71,14 @@ function stateText(row) {
   return STATES[row.state] + (row.code === undefined ? "" : ` (código ${row.code})`);
 }
 
+// A record's state, and where a newer one of these rows cancels its invoice, that.
+function agencyText(row, rows) {
+  const isOf = (other) => other.num === row.num && other.record === "anulacion" && other.place > row.place && !REFUSED.includes(other.state);
+  const cancellation = row.record === "anulacion" ? undefined : rows.find(isOf);
+  if (!cancellation) return stateText(row);
+  return cancellation.state === "pending" ? "anulación pendiente" : "anulada";
+}
+
 function kindOf(row) {
   return row.record === "anulacion" ? "anulación" : row.kind;
 }
@@ -80,21 +92,51 @@ function showWaiting(state) {
   part("waiting").textContent = count(waiting);
   const at = state.noted_at ? new Date(state.noted_at) : null;
   let text = at ? `Última respuesta de la Agencia: ${hour(at)}.` : "Sin respuesta de la Agencia desde que arrancó el servicio.";
-  if (state.oldest_waiting) text += ` La más antigua: ${state.oldest_waiting.num}, del ${day(state.oldest_waiting.date)}.`;
+  if (state.oldest_waiting) text += ` Primera factura pendiente: ${state.oldest_waiting.num}, del ${day(state.oldest_waiting.date)}.`;
   part("noted").textContent = waiting || at ? text : "Nada que enviar.";
   part("waiting-card").classList.toggle("late", waiting > 0 && (!at || now - at > LATE));
 }
 
-function showRefused(rows) {
-  show("refused-part", rows.length > 0);
-  part("refused").replaceChildren(...rows.map((row) => {
-    const item = document.createElement("li");
-    const first = document.createElement("p");
-    const total = row.total === undefined ? "" : `, ${euros(row.total)}`;
-    first.append(element("strong", row.num), ` del ${day(row.date)} (${kindOf(row)}${total}), registro ${count(row.place)}: ${stateText(row)}.`);
-    item.append(first, element("p", whatToDo(row), "note"));
-    return item;
-  }));
+function task(row) {
+  const item = document.createElement("li");
+  const first = document.createElement("p");
+  const total = row.total === undefined ? "" : `, ${euros(row.total)}`;
+  first.append(element("strong", row.num), ` del ${day(row.date)} (${kindOf(row)}${total}), registro ${count(row.place)}: ${stateText(row)}.`);
+  item.append(first, element("p", whatToDo(row), "note"));
+  return item;
+}
+
+function showRefused() {
+  if (firstRefused >= refused.length) firstRefused = Math.max(0, Math.floor((refused.length - 1) / PAGE) * PAGE);
+  const end = Math.min(firstRefused + PAGE, refused.length);
+  show("refused-part", refused.length > 0);
+  show("refused-pages", refused.length > PAGE);
+  part("refused-which").textContent = `${count(firstRefused + 1)} a ${count(end)} de ${count(refused.length)}`;
+  part("refused-before").disabled = firstRefused === 0;
+  part("refused-after").disabled = end === refused.length;
+  part("refused").replaceChildren(...refused.slice(firstRefused, end).map(task));
+  showRefusedOf("today-refused", dayOf(now));
+  showRefusedOf("month-refused", part("month").value);
+}
+
+// Names the refused invoices of a day or a month beside its sums.
+function showRefusedOf(id, period) {
+  const rows = period === "" ? [] : refused.filter((row) => row.record !== "anulacion" && row.date.startsWith(period));
+  const named = rows.slice(0, PAGE).map((row) => `${row.num} (${euros(row.total)})`).join(", ");
+  show(id, rows.length > 0);
+  part(id).textContent = `Rechazadas: ${named}${rows.length > PAGE ? ` y ${count(rows.length - PAGE)} más` : ""}. Lo rechazado no se suma.`;
+}
+
+function turnPage(by) {
+  firstRefused = Math.max(0, firstRefused + by);
+  showRefused();
+}
+
+// Those of the newest records that were accepted with errors, and that no newer record of their invoice answers.
+function showErrors(rows) {
+  const open = rows.filter((row) => row.state === "con-errores" && !rows.some((other) => other.num === row.num && other.place > row.place));
+  show("errors-part", open.length > 0);
+  part("errors").replaceChildren(...open.map(task));
 }
 
 function showNewest(rows) {
@@ -106,7 +148,7 @@ function showNewest(rows) {
     line.append(
       cell("Registro", count(row.place)), cell("Factura", row.num), cell("Fecha", day(row.date)), cell("Tipo", kindOf(row)),
       cell("Cuota", amount(row.cuota), "amount"), cell("Total", amount(row.total), "amount"),
-      cell("Agencia", stateText(row), REFUSED.includes(row.state) ? "bad" : ""));
+      cell("Agencia", agencyText(row, rows), REFUSED.includes(row.state) ? "bad" : ""));
     return line;
   }));
 }
@@ -118,7 +160,9 @@ function showState(state) {
   part("records").textContent = count(state.records);
   part("starts").textContent = state.starts > 1 ? `El programa se ha arrancado ${count(state.starts)} veces.` : "";
   showWaiting(state);
-  showRefused(state.refused);
+  refused = state.refused;
+  showRefused();
+  showErrors(state.newest);
   showNewest(state.newest);
 }
 
@@ -134,7 +178,7 @@ function showMonth(sums) {
     return line;
   }));
   const line = document.createElement("tr");
-  const head = element("th", "Todas");
+  const head = element("th", "Total");
   head.scope = "row";
   line.append(head, ...sumCells(sums));
   part("all-sums").replaceChildren(line);
@@ -163,13 +207,16 @@ async function lookAtMonth() {
       showMonth(sums);
     }
   } catch (problem) {
-    fault(problem.status === 400 ? "De ese mes no hay sumas." : "No se han podido leer las sumas.");
+    fault(problem.status === 400 ? "No hay datos de ese mes." : "No se han podido leer las sumas.");
   }
 }
 
 async function lookAtSums(state) {
   const today = dayOf(now);
-  if (!part("month").value) part("month").value = today.slice(0, 7);
+  if (!part("month").value) {
+    part("month").value = today.slice(0, 7);
+    showRefusedOf("month-refused", part("month").value);
+  }
   const wanted = [state.records, state.noted, today].join(" ");
   if (mark === wanted || Date.now() - summed < SUMS_EVERY) return;
   summed = Date.now();
@@ -200,7 +247,7 @@ async function look() {
     showState(state);
     show("gone", false);
     document.body.classList.remove("stale");
-    part("clock").textContent = `Visto: ${hour(now)}`;
+    part("clock").textContent = `Actualizado: ${hour(now)}`;
     await lookAtSums(state);
   } catch (problem) {
     showGone(problem);
@@ -212,5 +259,10 @@ async function look() {
 document.addEventListener("visibilitychange", () => {
   if (document.visibilityState === "visible" && timer === null && !isLooking) look();
 });
-part("month").addEventListener("change", lookAtMonth);
+part("month").addEventListener("change", () => {
+  showRefusedOf("month-refused", part("month").value);
+  lookAtMonth();
+});
+part("refused-before").addEventListener("click", () => turnPage(-PAGE));
+part("refused-after").addEventListener("click", () => turnPage(PAGE));
 look();

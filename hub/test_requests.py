@@ -214,6 +214,15 @@ class OwnerTest(OverAHub):
         self.assertIn(b'lang="es"', self.hub.ask("GET", "/", headers=basic).body)
         self.assertEqual(self.hub.ask("GET", "/v1/state", headers=basic).status, 200)
 
+    def test_a_browser_is_told_in_spanish_what_is_wrong(self) -> None:
+        for token, status, words in (("x", 401, "contraseña no es correcta"), (self.place.till[1], 403, "para el dueño")):
+            answer = self.hub.ask("GET", "/", token, headers={"Accept": "text/html,*/*"})
+            self.assertEqual((answer.status, answer.headers["content-type"]), (status, "text/html; charset=utf-8"))
+            self.assertIn(words, answer.body.decode())
+            self.assertIn("default-src 'none'", answer.headers["content-security-policy"])
+            self.is_problem(self.hub.ask("GET", "/", token), status, "unauthorized" if status == 401 else "forbidden")
+            self.assertIn("json", self.hub.ask("GET", "/v1/state", token, headers={"Accept": "text/html"}).headers["content-type"])
+
     def test_health(self) -> None:
         self.assertEqual(self.hub.ask("GET", "/health").json, {"status": "ok"})
         self.assertEqual(self.hub.ask("HEAD", "/health").status, 200)
