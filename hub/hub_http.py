@@ -2,6 +2,7 @@
 from __future__ import annotations
 
 import asyncio
+import html
 import json
 import os
 import re
@@ -57,7 +58,8 @@ PROBLEMS: Dict[str, Tuple[int, str]] = {
 WORDS = {
     401: "La contraseña no es correcta. El usuario es <b>owner</b>. Vuelva a cargar la página y escríbala otra vez.",
     403: "Con esta contraseña no se puede ver esta página: es para el dueño de la tienda.",
-    503: "El programa de facturas no contesta. Vuelva a cargar la página dentro de un minuto; si sigue igual, avise a su técnico.",
+    503: "El programa de facturas no contesta: las cajas no pueden vender ahora. Vuelva a cargar la página dentro de un minuto; si sigue "
+         "igual, avise a su técnico.",
 }
 RETRY_AFTER = {"too-many": "1", "unavailable": "2"}  # seconds
 
@@ -480,8 +482,11 @@ class Hub:
     # ---- what the owner and anybody asks
 
     async def _state(self, asking: Asking) -> web.Response:
-        _no_query(asking)
-        return answer_json(await _books(asking).state())
+        if not asking.query:
+            return answer_json(await _books(asking).state())
+        if [name for name, _ in asking.query] != ["refused"]:
+            raise BadRequest("the query isn't refused alone, once")
+        return answer_json(await _books(asking).state(read_serial(asking.query[0][1], "refused")))
 
     async def _month(self, asking: Asking) -> web.Response:
         _no_query(asking)
@@ -537,6 +542,8 @@ def _say_in_spanish(request: web.BaseRequest, response: web.Response) -> None:
     words = WORDS.get(response.status)
     if words is None or request["inner"] != "/" or "text/html" not in request.headers.get("Accept", ""):
         return
+    if response.status == 503 and isinstance(response.body, bytes) and response.content_type == "application/problem+json":
+        words += f"</p><p>Motivo, en inglés: {html.escape(json.loads(response.body)['detail'])}"
     response.body = ('<!DOCTYPE html><html lang="es"><head><meta charset="utf-8"><meta name="viewport" content="width=device-width">'
                      f'<meta name="color-scheme" content="light dark"><title>Facturas</title></head><body><p>{words}</p></body></html>').encode()
     response.headers["Content-Type"] = "text/html; charset=utf-8"

@@ -24,6 +24,7 @@ T = TypeVar("T")
 MENDED_BY_NO_RESTART = (2, 7, 11, 13)  # statuses
 STDERR = 2  # its number in the program
 PRACTICE = "practice agency: "  # how the program's line begins by which it says that it is a trial
+FOR_PRACTICE = "the agency: for practice: "  # the same, where the adapter says so
 
 _libc = ctypes.CDLL(None)
 
@@ -127,6 +128,7 @@ class Faults:
         self.name = name
         self.rest = b""
         self.lines: Deque[str] = deque(maxlen=MOST_FAULTS)
+        self.for_practice = False
 
     def hear(self, data: bytes) -> None:
         """Takes what was read; a line that is too long is cut off."""
@@ -139,7 +141,8 @@ class Faults:
                 tell(text, self.name)
             else:
                 sys.stderr.write(f"{said}\n")
-            if not text.startswith(PRACTICE):
+            self.for_practice = self.for_practice or text.startswith(FOR_PRACTICE)
+            if not text.startswith((PRACTICE, FOR_PRACTICE)):
                 self.lines.append(text)
 
     def reason(self, status: int) -> str:
@@ -215,6 +218,7 @@ class Run(asyncio.SubprocessProtocol):
     def pipe_data_received(self, fd: int, data: bytes) -> None:
         if fd == STDERR:
             self.faults.hear(data)
+            self.shop.for_practice = self.shop.for_practice or self.faults.for_practice
             return
         *answers, self.rest = (self.rest + data).split(b"\n")
         for answer in answers:
@@ -311,6 +315,7 @@ class Shop:
         self.failures = 0  # runs in a row that answered nothing
         self.status = 0  # of the last run
         self.reason = ""  # why the last run ended, until one answers
+        self.for_practice = False  # the adapter said so since the hub began
         self.closing = False
         self.killing = False
         self.timer: Optional[asyncio.TimerHandle] = None

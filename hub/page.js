@@ -1,5 +1,6 @@
 "use strict";
-// The owner's page: it asks /v1/state every five seconds while it is looked at, and the sums where records came. It only reads, and adds up nothing.
+// The owner's page: it asks /v1/state every five seconds while it is looked at, and the sums where records came. It only reads. It adds up nothing but
+// base, tax and surcharge of the sums that the program gives.
 
 const EVERY = 5000; // milliseconds from one look to the next
 const SUMS_EVERY = 30000; // milliseconds from one look at the sums to the next, at least
@@ -30,12 +31,12 @@ const dayOf = (moment) => new Intl.DateTimeFormat("sv-SE", { timeZone: "Europe/M
 
 let now = new Date(); // the hub's clock, at its last answer
 let seen = null; // when the hub answered last, by this machine's clock
-let mark = ""; // the counts and the day that the sums were asked for
+let mark = ""; // the counts, the day and the month that the sums were asked for
 let summed = 0; // when the sums were asked
 let timer = null;
 let isLooking = false;
-let refused = []; // as the hub told them last
-let firstRefused = 0; // the first of them that is shown
+let firstRefused = 1; // the first of the refused records that is shown
+let lastToday = ""; // the day that the day's field showed by itself
 
 function element(name, text, className) {
   const made = document.createElement(name);
@@ -60,7 +61,10 @@ async function ask(path) {
   try {
     const answer = await fetch(new URL(path, location.origin + location.pathname), { signal: stop.signal, cache: "no-store" });
     if (answer.headers.get("Date")) now = new Date(answer.headers.get("Date"));
-    if (!answer.ok) throw Object.assign(new Error("status"), { status: answer.status });
+    if (!answer.ok) {
+      const { detail } = await answer.json().catch(() => ({}));
+      throw Object.assign(new Error("status"), { status: answer.status, detail });
+    }
     return await answer.json();
   } finally {
     clearTimeout(late);
@@ -106,30 +110,30 @@ function task(row) {
   return item;
 }
 
-function showRefused() {
-  if (firstRefused >= refused.length) firstRefused = Math.max(0, Math.floor((refused.length - 1) / PAGE) * PAGE);
-  const end = Math.min(firstRefused + PAGE, refused.length);
-  show("refused-part", refused.length > 0);
-  show("refused-pages", refused.length > PAGE);
-  part("refused-which").textContent = `${count(firstRefused + 1)} a ${count(end)} de ${count(refused.length)}`;
-  part("refused-before").disabled = firstRefused === 0;
-  part("refused-after").disabled = end === refused.length;
-  part("refused").replaceChildren(...refused.slice(firstRefused, end).map(task));
-  showRefusedOf("today-refused", dayOf(now));
-  showRefusedOf("month-refused", part("month").value);
+function showRefused(rows, all) {
+  show("refused-part", all > 0);
+  show("refused-pages", all > PAGE);
+  part("refused-which").textContent = `${count(firstRefused)} a ${count(firstRefused + rows.length - 1)} de ${count(all)}`;
+  part("refused-before").disabled = firstRefused === 1;
+  part("refused-after").disabled = firstRefused + PAGE > all;
+  part("refused").replaceChildren(...rows.map(task));
 }
 
-// Names the refused invoices of a day or a month beside its sums.
-function showRefusedOf(id, period) {
-  const rows = period === "" ? [] : refused.filter((row) => row.record !== "anulacion" && row.date.startsWith(period));
-  const named = rows.slice(0, PAGE).map((row) => `${row.num} (${euros(row.total)})`).join(", ");
-  show(id, rows.length > 0);
-  part(id).textContent = `Rechazadas: ${named}${rows.length > PAGE ? ` y ${count(rows.length - PAGE)} más` : ""}. Lo rechazado no se suma.`;
+// Names what was refused of a day or a month beside its sums.
+function showRefusedOf(id, sums) {
+  const named = sums.refused.map((row) => `${row.num} (${euros(row.total)})`).join(", ");
+  const more = sums.refused_count - sums.refused.length;
+  show(id, sums.refused_count > 0);
+  part(id).textContent = `Rechazado, no se suma: ${named}${more > 0 ? ` y ${count(more)} más` : ""}.`;
 }
 
-function turnPage(by) {
-  firstRefused = Math.max(0, firstRefused + by);
-  showRefused();
+async function turnPage(by) {
+  firstRefused = Math.max(1, firstRefused + by);
+  try {
+    await lookAtState();
+  } catch (problem) {
+    showGone(problem);
+  }
 }
 
 // Those of the newest records that were accepted with errors, and that no newer record of their invoice answers.
@@ -148,7 +152,7 @@ function showNewest(rows) {
     line.append(
       cell("Registro", count(row.place)), cell("Factura", row.num), cell("Fecha", day(row.date)), cell("Tipo", kindOf(row)),
       cell("Cuota", amount(row.cuota), "amount"), cell("Total", amount(row.total), "amount"),
-      cell("Agencia", agencyText(row, rows), REFUSED.includes(row.state) ? "bad" : ""));
+      cell("Agencia", agencyText(row, rows), REFUSED.includes(row.state) ? "bad" : row.state === "con-errores" ? "warn" : ""));
     return line;
   }));
 }
@@ -160,15 +164,18 @@ function showState(state) {
   part("records").textContent = count(state.records);
   part("starts").textContent = state.starts > 1 ? `El programa se ha arrancado ${count(state.starts)} veces.` : "";
   showWaiting(state);
-  refused = state.refused;
-  showRefused();
+  showRefused(state.refused, state.refused_count);
   showErrors(state.newest);
   showNewest(state.newest);
 }
 
+function total(sums) {
+  return euros(sums.base + sums.tax + sums.surcharge);
+}
+
 function sumCells(sums) {
   return [cell("Líneas", count(sums.lines), "amount"), cell("Base", euros(sums.base), "amount"), cell("Cuota", euros(sums.tax), "amount"),
-    cell("Recargo", euros(sums.surcharge), "amount")];
+    cell("Recargo", euros(sums.surcharge), "amount"), cell("Total", total(sums), "amount")];
 }
 
 function showMonth(sums) {
@@ -182,73 +189,123 @@ function showMonth(sums) {
   head.scope = "row";
   line.append(head, ...sumCells(sums));
   part("all-sums").replaceChildren(line);
+  showRefusedOf("month-refused", sums);
 }
 
-function showToday(sums) {
+function showDay(sums) {
   const pairs = [["Base", euros(sums.base)], ["Cuota", euros(sums.tax)], ["Recargo", euros(sums.surcharge)], ["Líneas", count(sums.lines)]];
-  part("today").replaceChildren(...pairs.flatMap(([name, text]) => [element("dt", name), element("dd", text)]));
+  part("day-total").textContent = total(sums);
+  part("day-sums").replaceChildren(...pairs.flatMap(([name, text]) => [element("dt", name), element("dd", text)]));
+  showRefusedOf("day-refused", sums);
 }
 
-async function lookAtMonth() {
-  const month = part("month");
+// Asks the sums of a field's day or month, and shows them if the field still says the same. Whether that went well.
+async function lookAtPeriod(id, path, form, words, showSums) {
+  const field = part(id);
+  const wanted = field.value;
   const fault = (text) => {
-    show("month-fault", text !== "");
-    part("month-fault").textContent = text;
+    show(`${id}-fault`, text !== "");
+    part(`${id}-fault`).textContent = text;
   };
-  if (!/^\d{4}-\d{2}$/.test(month.value)) {
-    fault("Escriba el mes como 2025-01.");
-    return;
+  if (!form.test(wanted)) {
+    fault(words.form);
+    return true;
   }
   try {
-    const wanted = month.value;
-    const sums = await ask(`v1/months/${wanted}`);
-    if (month.value === wanted) {
+    const sums = await ask(`${path}/${wanted}`);
+    if (field.value === wanted) {
       fault("");
-      showMonth(sums);
+      showSums(sums);
     }
+    return true;
   } catch (problem) {
-    fault(problem.status === 400 ? "No hay datos de ese mes." : "No se han podido leer las sumas.");
+    if (field.value === wanted) fault(problem.status === 400 ? words.none : "No se han podido leer las sumas.");
+    return problem.status === 400;
   }
+}
+
+function lookAtDay() {
+  const words = { form: "Escriba el día como 2025-01-31.", none: "No hay datos de ese día." };
+  return lookAtPeriod("day", "v1/days", /^\d{4}-\d{2}-\d{2}$/, words, showDay);
+}
+
+function lookAtMonth() {
+  const words = { form: "Escriba el mes como 2025-01.", none: "No hay datos de ese mes." };
+  return lookAtPeriod("month", "v1/months", /^\d{4}-\d{2}$/, words, showMonth);
+}
+
+// A row a day of the month, one asked after the other, while they are looked at: in a long chain each takes seconds.
+async function lookAtDays() {
+  const month = part("month").value;
+  part("days").replaceChildren();
+  part("days-note").textContent = "";
+  if (!part("days-part").open || !/^\d{4}-\d{2}$/.test(month)) return;
+  const days = new Date(Date.UTC(Number(month.slice(0, 4)), Number(month.slice(5)), 0)).getUTCDate();
+  const isWanted = () => part("days-part").open && part("month").value === month;
+  try {
+    for (let number = 1; number <= days; number += 1) {
+      const date = `${month}-${String(number).padStart(2, "0")}`;
+      if (date > dayOf(now)) break;
+      part("days-note").textContent = `Leyendo el ${day(date)}…`;
+      const sums = await ask(`v1/days/${date}`);
+      if (!isWanted()) return;
+      const line = document.createElement("tr");
+      line.append(cell("Día", day(date)), ...sumCells(sums),
+        cell("Rechazados", sums.refused_count ? count(sums.refused_count) : "–", sums.refused_count ? "bad" : ""));
+      part("days").append(line);
+    }
+    part("days-note").textContent = `Leído: ${hour(now)}. Para leerlo otra vez, cierre y abra esta lista.`;
+  } catch {
+    if (isWanted()) part("days-note").textContent = "No se han podido leer las sumas.";
+  }
+}
+
+// Today's day and month stand in the fields until others are chosen.
+function chooseToday() {
+  const today = dayOf(now);
+  if (part("day").value === lastToday) part("day").value = today;
+  if (!part("month").value && lastToday === "") part("month").value = today.slice(0, 7);
+  lastToday = today;
 }
 
 async function lookAtSums(state) {
-  const today = dayOf(now);
-  if (!part("month").value) {
-    part("month").value = today.slice(0, 7);
-    showRefusedOf("month-refused", part("month").value);
-  }
-  const wanted = [state.records, state.noted, today].join(" ");
+  chooseToday();
+  const wanted = [state.records, state.noted, state.refused_count, lastToday].join(" ");
   if (mark === wanted || Date.now() - summed < SUMS_EVERY) return;
   summed = Date.now();
-  try {
-    showToday(await ask(`v1/days/${today}`));
-    await lookAtMonth();
-    mark = wanted;
-  } catch {
-    part("today").replaceChildren(element("dt", "No se han podido leer."));
-  }
+  const isDayRead = await lookAtDay();
+  if (await lookAtMonth() && isDayRead) mark = wanted;
 }
 
 function showGone(problem) {
   let text = "El servicio no contesta.";
   if (problem.status === 503) text = "El programa de facturas no contesta: las cajas no pueden vender ahora.";
+  if (problem.status === 503 && problem.detail) text += ` Motivo, en inglés: ${problem.detail}.`;
   if (problem.status === 401 || problem.status === 403) text = "La contraseña ya no vale. Vuelva a cargar la página.";
   part("gone").textContent = text + (seen ? ` Lo que se ve es de ${hour(seen)}.` : "");
   show("gone", true);
   document.body.classList.add("stale");
 }
 
+async function lookAtState() {
+  const state = await ask(`v1/state?refused=${firstRefused}`);
+  if (state.refused.length === 0 && firstRefused > 1) {
+    firstRefused = 1; // there are fewer than before
+    return lookAtState();
+  }
+  seen = new Date();
+  showState(state);
+  show("gone", false);
+  document.body.classList.remove("stale");
+  part("clock").textContent = `Actualizado: ${hour(now)}`;
+  return state;
+}
+
 async function look() {
   timer = null;
   isLooking = true;
   try {
-    const state = await ask("v1/state");
-    seen = new Date();
-    showState(state);
-    show("gone", false);
-    document.body.classList.remove("stale");
-    part("clock").textContent = `Actualizado: ${hour(now)}`;
-    await lookAtSums(state);
+    await lookAtSums(await lookAtState());
   } catch (problem) {
     showGone(problem);
   }
@@ -259,10 +316,12 @@ async function look() {
 document.addEventListener("visibilitychange", () => {
   if (document.visibilityState === "visible" && timer === null && !isLooking) look();
 });
+part("day").addEventListener("change", lookAtDay);
 part("month").addEventListener("change", () => {
-  showRefusedOf("month-refused", part("month").value);
   lookAtMonth();
+  lookAtDays();
 });
+part("days-part").addEventListener("toggle", lookAtDays);
 part("refused-before").addEventListener("click", () => turnPage(-PAGE));
 part("refused-after").addEventListener("click", () => turnPage(PAGE));
 look();

@@ -356,6 +356,9 @@ class Agency:
         rows = [row.split() for row in os.environ.get("STAND_IN_VERDICTS", "").split(",") if row.strip()]
         self.verdicts = {(row[0], int(row[1])): self.line(row[2], row[3]) for row in rows}
         self.due = time.monotonic()
+        if "STAND_IN_FOR_PRACTICE" in os.environ:
+            sys.stderr.write("verifactu: the agency: for practice: what a stand-in answers for is never sent to the tax agency\n")
+            sys.stderr.flush()
 
     @staticmethod
     def line(word, code):
