@@ -199,16 +199,6 @@ class OwnerTest(OverAHub):
         sums = self.hub.ask("GET", "/v1/days/2024-01-31", self.place.owner).json
         self.assertEqual((sums["refused"], sums["refused_count"]), ([], 0))
 
-    def test_a_browser_is_told_why_the_program_does_not_come_up(self) -> None:
-        second = Hub(self.place, *self.agency.words, environment=self.agency.environment)
-        self.addCleanup(second.end)
-        until(lambda: second.logged("in use by another program"), "the second one is told")
-        answer = second.ask("GET", "/", self.place.owner, headers={"Accept": "text/html"})
-        self.assertEqual((answer.status, answer.headers["content-type"]), (503, "text/html; charset=utf-8"))
-        self.assertIn("las cajas no pueden vender ahora", answer.body.decode())
-        self.assertRegex(answer.body.decode(), "Motivo, en inglés: .*in use by another program")
-        self.is_problem(second.ask("GET", "/", self.place.owner), 503, "unavailable")
-
     def test_an_adapter_that_is_for_practice_is_told_in_the_state(self) -> None:
         if Options.program != STAND_IN:
             self.skipTest("the stand-in says it when it is told to")
@@ -574,7 +564,7 @@ class DescriptionTest(OverAHub):
         for parameter in parameters:
             if parameter["in"] == "query":
                 query = f"?{parameter['name']}={parameter['example']}"
-            path = path.replace("{%s}" % parameter["name"], parameter["example"])
+            path = path.replace("{%s}" % parameter["name"], str(parameter["example"]))
         return path, query
 
     def test_each_example_of_an_answer_is_of_its_schema_and_each_problem_is_described(self) -> None:
