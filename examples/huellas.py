@@ -3,9 +3,10 @@
 
     python3 examples/huellas.py < examples/huellas.csv
 
-Standard input is UTF-8: first the names of the columns, then a line a record in the order of the chain, fields parted by `;`. The columns are
-those of COLUMNS, in any order; others are passed over. In an anulacion's line TipoFactura, CuotaTotal and ImporteTotal are empty, and the
-number and day are those of the cancelled invoice. Huella may be empty, and is then not compared. Each value is hashed as it stands.
+Standard input is UTF-8: first the names of the columns, then a line a record in the order of the chain, fields parted by
+`;`. The columns are those of COLUMNS, in any order; others are passed over. In an anulacion's line TipoFactura, CuotaTotal
+and ImporteTotal are empty, and the number and day are those of the cancelled invoice. Huella may be empty, and is then not
+compared. Each value is hashed as it stands.
 
 It prints a line a record: its place, number and Huella. The first record whose Huella is another one ends it with status 1.
 """
@@ -13,7 +14,8 @@ import csv
 import hashlib
 import sys
 
-COLUMNS = ("IDEmisor", "NumSerie", "FechaExpedicion", "TipoFactura", "CuotaTotal", "ImporteTotal", "FechaHoraHusoGenRegistro", "Huella")
+COLUMNS = ("IDEmisor", "NumSerie", "FechaExpedicion", "TipoFactura", "CuotaTotal", "ImporteTotal",
+           "FechaHoraHusoGenRegistro", "Huella")
 
 
 def text(row, before):

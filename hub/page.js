@@ -1,6 +1,6 @@
 "use strict";
-// The owner's page: it asks /v1/state every five seconds while it is looked at, and the sums where records came. It only reads. It adds up nothing but
-// base, tax and surcharge of the sums that the program gives.
+// The owner's page: it asks /v1/state every five seconds while it is looked at, and the sums where records came. It only reads, and adds up
+// nothing but base, tax and surcharge of the sums that the program gives.
 
 const EVERY = 5000; // milliseconds from one look to the next
 const SUMS_EVERY = 30000; // milliseconds from one look at the sums to the next, at least

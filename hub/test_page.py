@@ -2,6 +2,7 @@
 from __future__ import annotations
 
 import asyncio
+import base64
 import json
 import os
 import shutil
@@ -23,10 +24,17 @@ CONTRAST = """(() => {
   const parts = (text) => (text.match(/[\\d.]+/g) || []).map(Number);
   const light = ([r, g, b]) => [r, g, b].map((c) => c / 255).map((c) => (c <= 0.03928 ? c / 12.92 : ((c + 0.055) / 1.055) ** 2.4))
     .reduce((sum, c, i) => sum + c * [0.2126, 0.7152, 0.0722][i], 0);
-  const behind = (it) => { while (it) { const c = parts(getComputedStyle(it).backgroundColor); if (c.length === 3 || c[3] > 0) return c; it = it.parentElement; } return [255, 255, 255]; };
+  const behind = (it) => {
+    for (; it; it = it.parentElement) {
+      const colour = parts(getComputedStyle(it).backgroundColor);
+      if (colour.length === 3 || colour[3] > 0) return colour;
+    }
+    return [255, 255, 255];
+  };
   let least = 21;
   for (const it of document.querySelectorAll("body *")) {
-    if (!it.checkVisibility() || ![...it.childNodes].some((node) => node.nodeType === 3 && node.textContent.trim()) || it.disabled) continue;
+    const hasText = [...it.childNodes].some((node) => node.nodeType === 3 && node.textContent.trim());
+    if (!it.checkVisibility() || !hasText || it.disabled) continue;
     for (let up = it; up; up = up.parentElement) if (getComputedStyle(up).opacity !== "1") return 0;
     const [a, b] = [light(parts(getComputedStyle(it).color)), light(behind(it))].sort((x, y) => y - x);
     least = Math.min(least, (a + 0.05) / (b + 0.05));
@@ -40,14 +48,15 @@ class Browser:
 
     def __init__(self) -> None:
         self.folder = tempfile.mkdtemp(prefix="verifactu-browser-")
-        words = ["--headless=new", "--no-sandbox", "--disable-gpu", "--disable-dev-shm-usage", "--remote-debugging-port=0", "--no-first-run", "--lang=es"]
+        words = ["--headless=new", "--no-sandbox", "--disable-gpu", "--disable-dev-shm-usage", "--remote-debugging-port=0",
+                 "--no-first-run", "--lang=es"]
         self.process = subprocess.Popen([str(BROWSER), *words, f"--user-data-dir={self.folder}", "about:blank"],
                                         stdout=subprocess.DEVNULL, stderr=subprocess.DEVNULL)
         self.loop = asyncio.new_event_loop()
         self.number = 0
         self.complaints: List[str] = []
         port_file = os.path.join(self.folder, "DevToolsActivePort")
-        self.port = until(lambda: os.path.exists(port_file) and open(port_file, encoding="ascii").readline().strip(), "the browser listens")
+        self.port = until(lambda: _first_line(port_file), "the browser listens")
         self.loop.run_until_complete(self._join())
 
     async def _join(self) -> None:
@@ -80,12 +89,14 @@ class Browser:
 
     def text(self, id_: str) -> Optional[str]:
         """What is seen of a part of the page, None where it is hidden. A blank stands for each kind of blank."""
-        found: Optional[str] = self.run(f'(it => it && it.checkVisibility() ? it.innerText.replace(/\\s/g, " ") : null)(document.getElementById("{id_}"))')
+        part = f'document.getElementById("{id_}")'
+        found: Optional[str] = self.run(f'(it => it && it.checkVisibility() ? it.innerText.replace(/\\s/g, " ") : null)({part})')
         return found
 
     def choose(self, id_: str, value: str) -> None:
         """Writes into a field."""
-        self.run(f'(it => {{ it.value = "{value}"; it.dispatchEvent(new Event("change")); }})(document.getElementById("{id_}"))')
+        part = f'document.getElementById("{id_}")'
+        self.run(f'{part}.value = "{value}"; {part}.dispatchEvent(new Event("change"))')
 
     def picture(self, name: str) -> None:
         """Takes pictures, light and dark, of a desk and a phone, where somebody wants them."""
@@ -95,7 +106,7 @@ class Browser:
                 self.theme(theme)
                 data = self.ask("Page.captureScreenshot", captureBeyondViewport=True)["data"]
                 with open(os.path.join(PICTURES, f"{name}-{size}-{theme}.png"), "wb") as file:
-                    file.write(__import__("base64").b64decode(data))
+                    file.write(base64.b64decode(data))
         self.ask("Emulation.clearDeviceMetricsOverride")
 
     def theme(self, name: str) -> None:
@@ -110,6 +121,13 @@ class Browser:
         self.process.kill()
         self.process.wait()
         shutil.rmtree(self.folder, ignore_errors=True)
+
+
+def _first_line(path: str) -> str:
+    if not os.path.exists(path):
+        return ""
+    with open(path, encoding="ascii") as file:
+        return file.readline().strip()
 
 
 @unittest.skipUnless(BROWSER, "no chromium is there")
@@ -179,7 +197,7 @@ class PageTest(unittest.TestCase):
         self.assertIsNone(self.browser.text("refused-pages"))
         self.browser.run('document.getElementById("days-part").open = true')
         self.sees("days-note", "Leído")
-        rows = self.browser.run('[...document.querySelectorAll("#days tr")].map(row => row.innerText.replace(/\\s+/g, " "))')
+        rows = self.browser.run('[...document.querySelectorAll("#days tr")].map((row) => row.innerText.replace(/\\s+/g, " "))')
         self.assertEqual(len(rows), int(day[-2:]))
         self.assertTrue(rows[-1].startswith("/".join(reversed(day.split("-")))) and rows[-1].endswith("40,00 € 1"), rows[-1])
         self.is_clear()
