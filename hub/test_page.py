@@ -14,7 +14,7 @@ from typing import Any, Dict, List, Optional
 
 import aiohttp
 
-from trying import STAND_IN, Agency, Hub, Options, Place, until
+from trying import PATIENCE, STAND_IN, Agency, Hub, Options, Place, until
 
 BROWSER = shutil.which("chromium") or shutil.which("chromium-browser") or shutil.which("google-chrome")
 PICTURES = os.environ.get("PICTURES", "")  # a folder for pictures of the page, for whoever wants to look at it
@@ -156,9 +156,9 @@ class PageTest(unittest.TestCase):
         """Opens the page."""
         self.browser.ask("Page.navigate", url=f"http://owner:{password or self.place.owner}@127.0.0.1:{self.hub.port}/")
 
-    def sees(self, id_: str, words: str, seconds: float = 40) -> None:
+    def sees(self, id_: str, words: str) -> None:
         """Waits until the words are seen in a part of the page."""
-        end = time.monotonic() + seconds
+        end = time.monotonic() + PATIENCE
         while words not in (self.browser.text(id_) or ""):
             if time.monotonic() > end:
                 self.fail(f"{id_} says {self.browser.text(id_)!r}, not {words!r}; {self.browser.complaints}")
