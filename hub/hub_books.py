@@ -96,7 +96,7 @@ class Books:
         noted_at = self.shop.noted_at
         return {
             "issuer": self.issuer,
-            "practice": self.practice or self.shop.for_practice,
+            "practice": self.practice or self.shop.practises,
             "records": counts.records,
             "noted": counts.noted,
             "noted_at": noted_at.strftime("%Y-%m-%dT%H:%M:%SZ") if noted_at else None,

@@ -24,7 +24,7 @@ T = TypeVar("T")
 MENDED_BY_NO_RESTART = (2, 7, 11, 13)  # statuses
 STDERR = 2  # its number in the program
 PRACTICE = "practice agency: "  # how the program's line begins by which it says that it is a trial
-FOR_PRACTICE = "the agency: for practice: "  # the same, where the adapter says so
+PRACTISES = "the agency: for practice: "  # and how that begins by which its adapter does
 
 _libc = ctypes.CDLL(None)
 
@@ -128,7 +128,7 @@ class Faults:
         self.name = name
         self.rest = b""
         self.lines: Deque[str] = deque(maxlen=MOST_FAULTS)
-        self.for_practice = False
+        self.practises = False  # whether the adapter has said that it is for practice
 
     def hear(self, data: bytes) -> None:
         """Takes what was read; a line that is too long is cut off."""
@@ -141,8 +141,8 @@ class Faults:
                 tell(text, self.name)
             else:
                 sys.stderr.write(f"{said}\n")
-            self.for_practice = self.for_practice or text.startswith(FOR_PRACTICE)
-            if not text.startswith((PRACTICE, FOR_PRACTICE)):
+            self.practises = self.practises or text.startswith(PRACTISES)
+            if not text.startswith((PRACTICE, PRACTISES)):
                 self.lines.append(text)
 
     def reason(self, status: int) -> str:
@@ -218,7 +218,6 @@ class Run(asyncio.SubprocessProtocol):
     def pipe_data_received(self, fd: int, data: bytes) -> None:
         if fd == STDERR:
             self.faults.hear(data)
-            self.shop.for_practice = self.shop.for_practice or self.faults.for_practice
             return
         *answers, self.rest = (self.rest + data).split(b"\n")
         for answer in answers:
@@ -315,7 +314,6 @@ class Shop:
         self.failures = 0  # runs in a row that answered nothing
         self.status = 0  # of the last run
         self.reason = ""  # why the last run ended, until one answers
-        self.for_practice = False  # the adapter said so since the hub began
         self.closing = False
         self.killing = False
         self.timer: Optional[asyncio.TimerHandle] = None
@@ -327,6 +325,11 @@ class Shop:
     def has_answered(self) -> bool:
         """Whether the program ever answered a line."""
         return self.heard > float("-inf")
+
+    @property
+    def practises(self) -> bool:
+        """Whether the adapter of the program that runs has said that it is for practice."""
+        return self.run is not None and self.run.faults.practises
 
     # ---- asking
 
