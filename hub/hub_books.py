@@ -9,7 +9,7 @@ import os
 from typing import Any, Dict, List, Optional
 
 from hub_forms import REFUSED, BadRequest, Values, read_listing, read_row, read_statement, record_line
-from hub_limits import BETWEEN_LISTS, MOST_RECORDS_ASKED, NEWEST, NICE, OLD_LIST_AFTER, PART_OF_A_LIST
+from hub_limits import BETWEEN_LISTS, MOST_RECORDS_ASKED, NEWEST, NICE, OLD_LIST_AFTER, PART_OF_A_LIST, REFUSED_AT_ONCE
 from hub_pipe import Counts, Shop, Unavailable, read_counts, tell
 
 STATUS_USAGE = 2
@@ -84,25 +84,27 @@ class Books:
         self.listing: Optional["asyncio.Task[None]"] = None
         self.one_statement = asyncio.Lock()
 
-    async def state(self) -> Values:
-        """The answer to `/v1/state`."""
+    async def state(self, first: Optional[int] = None) -> Values:
+        """The answer to `/v1/state`; with a first one, fifty refused records at most, from that one on."""
         counts = await self.shop.counts()
         waiting = [counts.noted + 1] if counts.noted < counts.records else []
         newest = range(counts.records, max(0, counts.records - NEWEST), -1)
         rows = await asyncio.gather(*(self.shop.ask(record_line(place)) for place in [*waiting, *newest]))
         if not all(rows):
             raise Unavailable("a record that was counted isn't there")
+        refused = await self._refused(counts)
         noted_at = self.shop.noted_at
         return {
             "issuer": self.issuer,
-            "practice": self.practice,
+            "practice": self.practice or self.shop.practises,
             "records": counts.records,
             "noted": counts.noted,
             "noted_at": noted_at.strftime("%Y-%m-%dT%H:%M:%SZ") if noted_at else None,
             "starts": self.shop.starts,
             "oldest_waiting": rows[0] if waiting else None,
             "newest": rows[len(waiting):],
-            "refused": await self._refused(counts),
+            "refused": refused if first is None else refused[first - 1:first - 1 + REFUSED_AT_ONCE],
+            "refused_count": len(refused),
         }
 
     async def _refused(self, counts: Counts) -> List[Values]:
@@ -142,7 +144,9 @@ class Books:
         sums = read_statement(text, period) if status == 0 else None
         if sums is None:
             raise Unavailable(f"statement ended with status {status}")
-        return sums
+        date = "-".join(reversed(period.split("-")))
+        refused = [row for row in await self._refused(await self.shop.counts()) if row["record"] == "alta" and row["date"].startswith(date)]
+        return {**sums, "refused": refused[:REFUSED_AT_ONCE], "refused_count": len(refused)}
 
 
 async def list_refused(program: str, file: str, name: str) -> Optional[List[Values]]:

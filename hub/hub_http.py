@@ -2,6 +2,7 @@
 from __future__ import annotations
 
 import asyncio
+import html
 import json
 import os
 import re
@@ -35,7 +36,7 @@ PREFLIGHT_AGE = 600  # seconds for which a browser keeps a preflight's answer
 
 FOLDER = os.path.dirname(os.path.realpath(__file__))
 PAGE = {"/": ("page.html", "text/html"), "/page.css": ("page.css", "text/css"), "/page.js": ("page.js", "text/javascript")}
-POLICY = ("default-src 'none'; script-src 'self'; style-src 'self'; connect-src 'self'; img-src 'self'; "
+POLICY = ("default-src 'none'; script-src 'self'; style-src 'self'; connect-src 'self'; img-src 'self' data:; "
           "base-uri 'none'; form-action 'none'; frame-ancestors 'none'")
 METHODS = ("GET", "HEAD", "POST", "OPTIONS", "PUT", "DELETE", "PATCH")
 
@@ -52,6 +53,13 @@ PROBLEMS: Dict[str, Tuple[int, str]] = {
     "too-large": (413, "Too large"),
     "too-many": (429, "Too many requests under way"),
     "unavailable": (503, "Not answered: ask the same again"),
+}
+# what a browser shows in place of the owner's page
+WORDS = {
+    401: "La contraseña no es correcta. El usuario es <b>owner</b>. Vuelva a cargar la página y escríbala otra vez.",
+    403: "Con esta contraseña no se puede ver esta página: es para el dueño de la tienda.",
+    503: "El programa de facturas no contesta: las cajas no pueden vender ahora. Vuelva a cargar la página dentro de un minuto; si sigue "
+         "igual, avise a su técnico.",
 }
 RETRY_AFTER = {"too-many": "1", "unavailable": "2"}  # seconds
 
@@ -228,6 +236,7 @@ class Hub:
             response = Problem("unavailable", "the hub failed").response()
         if self.faults is not None:
             response = await self.faults.deliver(request, response)
+        _say_in_spanish(request, response)
         if not await _pass_over(request) or response.status == PROBLEMS["too-large"][0]:
             response.force_close()
         self._finish(request, response)
@@ -473,8 +482,11 @@ class Hub:
     # ---- what the owner and anybody asks
 
     async def _state(self, asking: Asking) -> web.Response:
-        _no_query(asking)
-        return answer_json(await _books(asking).state())
+        if not asking.query:
+            return answer_json(await _books(asking).state())
+        if [name for name, _ in asking.query] != ["refused"]:
+            raise BadRequest("the query isn't refused alone, once")
+        return answer_json(await _books(asking).state(read_serial(asking.query[0][1], "refused")))
 
     async def _month(self, asking: Asking) -> web.Response:
         _no_query(asking)
@@ -523,6 +535,19 @@ class Hub:
 def _read_file(name: str) -> bytes:
     with open(os.path.join(FOLDER, name), "rb") as file:
         return file.read()
+
+
+def _say_in_spanish(request: web.BaseRequest, response: web.Response) -> None:
+    """A page in place of a problem, where a browser asks for the owner's page."""
+    words = WORDS.get(response.status)
+    if words is None or request["inner"] != "/" or "text/html" not in request.headers.get("Accept", ""):
+        return
+    if response.status == 503 and isinstance(response.body, bytes) and response.content_type == "application/problem+json":
+        words += f"</p><p>Motivo, en inglés: {html.escape(json.loads(response.body)['detail'])}"
+    response.body = ('<!DOCTYPE html><html lang="es"><head><meta charset="utf-8"><meta name="viewport" content="width=device-width">'
+                     f'<meta name="color-scheme" content="light dark"><title>Facturas</title></head><body><p>{words}</p></body></html>').encode()
+    response.headers["Content-Type"] = "text/html; charset=utf-8"
+    response.headers["Content-Security-Policy"] = POLICY
 
 
 def _allowed(methods: Dict[str, Route]) -> List[str]:

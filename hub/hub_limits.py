@@ -69,6 +69,7 @@ MOST_SEED = 10**9
 
 # the owner
 NEWEST = 20  # records
+REFUSED_AT_ONCE = 50  # records
 BETWEEN_LISTS = 30  # seconds from one `list FILE refused` to the next, at least
 OLD_LIST_AFTER = 2  # seconds after which the list before is shown while a new one is made
 NICE = 10  # of the commands that run beside the program

@@ -24,6 +24,7 @@ T = TypeVar("T")
 MENDED_BY_NO_RESTART = (2, 7, 11, 13)  # statuses
 STDERR = 2  # its number in the program
 PRACTICE = "practice agency: "  # how the program's line begins by which it says that it is a trial
+PRACTISES = "the agency: for practice: "  # and how that begins by which its adapter does
 
 _libc = ctypes.CDLL(None)
 
@@ -127,6 +128,7 @@ class Faults:
         self.name = name
         self.rest = b""
         self.lines: Deque[str] = deque(maxlen=MOST_FAULTS)
+        self.practises = False  # whether the adapter has said that it is for practice
 
     def hear(self, data: bytes) -> None:
         """Takes what was read; a line that is too long is cut off."""
@@ -139,7 +141,8 @@ class Faults:
                 tell(text, self.name)
             else:
                 sys.stderr.write(f"{said}\n")
-            if not text.startswith(PRACTICE):
+            self.practises = self.practises or text.startswith(PRACTISES)
+            if not text.startswith((PRACTICE, PRACTISES)):
                 self.lines.append(text)
 
     def reason(self, status: int) -> str:
@@ -322,6 +325,11 @@ class Shop:
     def has_answered(self) -> bool:
         """Whether the program ever answered a line."""
         return self.heard > float("-inf")
+
+    @property
+    def practises(self) -> bool:
+        """Whether the adapter of the program that runs has said that it is for practice."""
+        return self.run is not None and self.run.faults.practises
 
     # ---- asking
 

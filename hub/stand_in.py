@@ -5,6 +5,7 @@ It knows few rules (docs/FORMAT.md has them all) and its file is its own: lines 
 killed at any moment. Its agency takes what waits every PAUSE seconds. By environment:
   STAND_IN_PAUSE     seconds from one look at what waits to the next (0.2), `never` for an agency that is silent
   STAND_IN_VERDICTS  "A-1 1 vet 3000, A-2 1 warn 200", as agency.py's: of the n-th record of an invoice
+  STAND_IN_FOR_PRACTICE  the adapter says that it is for practice
   STAND_IN_SLEEP     seconds that each command takes beside its sync
 """
 import errno
@@ -356,6 +357,9 @@ class Agency:
         rows = [row.split() for row in os.environ.get("STAND_IN_VERDICTS", "").split(",") if row.strip()]
         self.verdicts = {(row[0], int(row[1])): self.line(row[2], row[3]) for row in rows}
         self.due = time.monotonic()
+        if "STAND_IN_FOR_PRACTICE" in os.environ:
+            sys.stderr.write("verifactu: the agency: for practice: what a stand-in answers for is never sent to the tax agency\n")
+            sys.stderr.flush()
 
     @staticmethod
     def line(word, code):

@@ -5,7 +5,7 @@
 
 The program is the stand-in unless --program (or VERIFACTU) names the real one; N is how many sales each of 64 tills makes (200). NAMEs are of
 modules, classes or tests, as unittest has them. `.ci/setup` installs the Debian packages that they need. Where a module of Python is missing
-none is run, which is a failure where the variable CI is set. Tests that want a language, nginx, or the right to mount and to make network
+none is run, which is a failure where the variable CI is set. Tests that want a language, nginx, a browser, or the right to mount and to make network
 namespaces are left out without; what isn't run is told with its reason, and the last line says how many were.
 """
 from __future__ import annotations
@@ -22,9 +22,9 @@ from typing import Any, Iterator, Tuple
 # how each run of tests ends
 ENDED = re.compile(r"the hub's tests: (\d+) run, (\d+) not run")
 NEEDED = ("aiohttp", "jsonschema", "prometheus_client")
-MODULES = ["test_parts", "test_requests", "test_told", "test_attacks", "test_running", "test_machines", "test_nginx", "test_clients", "test_faults", "test_hosting"]
+MODULES = ["test_parts", "test_requests", "test_told", "test_attacks", "test_running", "test_machines", "test_nginx", "test_clients", "test_faults", "test_hosting", "test_page"]
 # each of these in a process of its own, beside the others; the first two wait for 75 and 30 seconds
-BESIDE = ["test_running.SlowTest.test_a_request_must_have_arrived_within_75_seconds", "test_running.LimitTest", "test_requests", "test_clients", "test_faults", "test_hosting"]
+BESIDE = ["test_running.SlowTest.test_a_request_must_have_arrived_within_75_seconds", "test_running.LimitTest", "test_requests", "test_clients", "test_faults", "test_hosting", "test_page"]
 
 
 def main() -> int:

@@ -19,7 +19,7 @@ from typing import Any, Dict, Iterator, List, Optional
 
 import jsonschema  # type: ignore[import]
 
-from trying import HERE, HUB, NIF, Agency, Answer, Hub, Options, Place, Street, read_answer, until
+from trying import HERE, HUB, NIF, STAND_IN, Agency, Answer, Hub, Options, Place, Street, read_answer, until
 
 SALE: Dict[str, Any] = {"serial": 1, "series": "A", "kind": "F2", "lines": [{"class": "21", "total": 1000}]}
 
@@ -173,9 +173,9 @@ class OwnerTest(OverAHub):
 
     def test_the_state_of_a_shop(self) -> None:
         empty = self.hub.state()
-        self.assertEqual({key: empty[key] for key in ("issuer", "practice", "records", "noted", "noted_at", "starts", "oldest_waiting", "newest", "refused")},
+        self.assertEqual({key: empty[key] for key in ("issuer", "practice", "records", "noted", "noted_at", "starts", "oldest_waiting", "newest", "refused", "refused_count")},
                          {"issuer": NIF, "practice": False, "records": 0, "noted": 0, "noted_at": None, "starts": 1, "oldest_waiting": None,
-                          "newest": [], "refused": []})
+                          "newest": [], "refused": [], "refused_count": 0})
         for serial in range(1, 24):
             self.assertEqual(self.post("/v1/sales", {**SALE, "serial": serial}).status, 201)
         self.post("/v1/cancellations", {"serial": 24, "num": "A-1"})
@@ -187,6 +187,26 @@ class OwnerTest(OverAHub):
         self.assertRegex(state["noted_at"], r"^\d{4}-\d\d-\d\dT\d\d:\d\d:\d\dZ$")
         refused = until(lambda: self.hub.state()["refused"], "the refused one is listed")
         self.assertEqual([(row["num"], row["state"], row["code"]) for row in refused], [("A-2", "vet", 1110)])
+        for first, rows in ((1, refused), (2, [])):
+            state = self.hub.ask("GET", f"/v1/state?refused={first}", self.place.owner).json
+            self.assertEqual((state["refused"], state["refused_count"]), (rows, 1))
+        for query in ("refused=0", "refused=x", "refused=1&refused=1", "refused=1&x=1"):
+            self.is_problem(self.hub.ask("GET", f"/v1/state?{query}", self.place.owner), 400, "bad-request")
+        day = refused[0]["date"]
+        for path in (f"/v1/days/{day}", f"/v1/months/{day[:7]}"):
+            sums = self.hub.ask("GET", path, self.place.owner).json
+            self.assertEqual((sums["refused"], sums["refused_count"]), (refused, 1))
+        sums = self.hub.ask("GET", "/v1/days/2024-01-31", self.place.owner).json
+        self.assertEqual((sums["refused"], sums["refused_count"]), ([], 0))
+
+    def test_an_adapter_that_is_for_practice_is_told_in_the_state(self) -> None:
+        if Options.program != STAND_IN:
+            self.skipTest("the stand-in says it when it is told to")
+        self.assertIs(self.hub.state()["practice"], False)
+        self.hub.stop()
+        self.hub = Hub(self.place, *self.agency.words, environment={**self.agency.environment, "STAND_IN_FOR_PRACTICE": "1"})
+        self.addCleanup(self.hub.end)
+        until(lambda: self.hub.state()["practice"], "it is told")
 
     def test_the_sums_of_a_month_and_a_day(self) -> None:
         self.post("/v1/sales", SALE)
@@ -197,7 +217,7 @@ class OwnerTest(OverAHub):
         for path, key, value in ((f"/v1/months/{day[:7]}", "month", day[:7]), (f"/v1/days/{day}", "day", day)):
             sums = self.hub.ask("GET", path, self.place.owner).json
             self.assertEqual({**sums, "classes": sorted(sums["classes"], key=lambda row: str(row["class"]), reverse=True)},
-                             {key: value, "lines": 3, "base": 10826, "tax": 1174, "surcharge": 140, "classes": classes})
+                             {key: value, "lines": 3, "base": 10826, "tax": 1174, "surcharge": 140, "classes": classes, "refused": [], "refused_count": 0})
         self.assertEqual(self.hub.ask("GET", "/v1/days/2024-01-31", self.place.owner).json["classes"], [])
 
     def test_the_page_is_the_owners_and_asks_nobody_else(self) -> None:
@@ -213,6 +233,15 @@ class OwnerTest(OverAHub):
             self.assertNotIn(b"innerHTML", page.body)
         self.assertIn(b'lang="es"', self.hub.ask("GET", "/", headers=basic).body)
         self.assertEqual(self.hub.ask("GET", "/v1/state", headers=basic).status, 200)
+
+    def test_a_browser_is_told_in_spanish_what_is_wrong(self) -> None:
+        for token, status, words in (("x", 401, "contraseña no es correcta"), (self.place.till[1], 403, "para el dueño")):
+            answer = self.hub.ask("GET", "/", token, headers={"Accept": "text/html,*/*"})
+            self.assertEqual((answer.status, answer.headers["content-type"]), (status, "text/html; charset=utf-8"))
+            self.assertIn(words, answer.body.decode())
+            self.assertIn("default-src 'none'", answer.headers["content-security-policy"])
+            self.is_problem(self.hub.ask("GET", "/", token), status, "unauthorized" if status == 401 else "forbidden")
+            self.assertIn("json", self.hub.ask("GET", "/v1/state", token, headers={"Accept": "text/html"}).headers["content-type"])
 
     def test_health(self) -> None:
         self.assertEqual(self.hub.ask("GET", "/health").json, {"status": "ok"})
@@ -535,7 +564,7 @@ class DescriptionTest(OverAHub):
         for parameter in parameters:
             if parameter["in"] == "query":
                 query = f"?{parameter['name']}={parameter['example']}"
-            path = path.replace("{%s}" % parameter["name"], parameter["example"])
+            path = path.replace("{%s}" % parameter["name"], str(parameter["example"]))
         return path, query
 
     def test_each_example_of_an_answer_is_of_its_schema_and_each_problem_is_described(self) -> None:
