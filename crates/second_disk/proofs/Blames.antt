@@ -1,7 +1,7 @@
 -- A fault's count.
-use Rattle.std.proofs.Common.{◌≡◌, ◌≤◌, ◌<◌, ℕ, refl, arith}
+use Rattle.std.proofs.Common.{◌≡◌, ◌≤◌, ℕ, refl, arith}
 use Rattle.chain_disk.specs.Disks.{Disks, DiskRose}
-use Rattle.ports.specs.Causes.{Rose, greatest_u64}
+use Rattle.ports.specs.Causes.{Rose}
 use Rattle.chain_store.specs.declared.causes.OpenCause.{OpenCause}
 use Rattle.chain_store.specs.declared.causes.OpenCause.TheVariants as opening
 use Rattle.standby.specs.declared.causes.StandbyCause.{StandbyCause}

@@ -1,5 +1,5 @@
 -- The one file, brought up by the other.
-use Rattle.std.proofs.Common.{◌≡◌, ◌⊎◌, ℕ, List, Bool, Option, Some, None, refl}
+use Rattle.std.proofs.Common.{◌≡◌, ℕ, List, Bool, Option, Some, None, refl}
 use Rattle.std.specs.Prelude.{IfNone, IfSome}
 use Rattle.std.proofs.Common.{subst}
 use Rattle.chain_disk.specs.OnDisk.{OnDisk}

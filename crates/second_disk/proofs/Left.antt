@@ -1,7 +1,7 @@
 -- What is left of two files that could not both be opened.
 use Rattle.std.proofs.Common.{◌≡◌, inl, inr, ℕ, List, [], refl}
 use Rattle.chain_disk.specs.OnDisk.{OnDisk, synced}
-use Rattle.chain_store.specs.Opening.{IsLeftUnopened, IsOthers}
+use Rattle.chain_store.specs.Opening.{IsLeftUnopened}
 use Rattle.chain_store.specs.declared.causes.OpenCause.{OpenCause}
 use Rattle.chain_store.specs.declared.causes.OpenCause.TheVariants as opening
 use Rattle.journal.specs.File.{IsNotBegun}
@@ -12,7 +12,7 @@ use Rattle.standby.specs.Starting.{IsLeftUnstarted}
 use Rattle.standby.specs.declared.causes.StandbyCause.{StandbyCause}
 use Rattle.standby.specs.declared.causes.StandbyCause.TheVariants as starting
 use Rattle.second_disk.specs.Causes.{opened_cause, started_cause}
-use Rattle.second_disk.specs.Level.{FirstEnd, GoesUp, HalfLeft, IsNotLevel, SecondEnd}
+use Rattle.second_disk.specs.Level.{GoesUp, IsNotLevel}
 use Rattle.second_disk.specs.Level.HalfLeft.{not_called, only_synced, lost, stayed}
 use Rattle.second_disk.specs.declared.causes.Half.TheVariants.{First, Second}
 

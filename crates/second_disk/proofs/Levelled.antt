@@ -1,5 +1,5 @@
 -- Two files, opened, brought up and made a mirror.
-use Rattle.std.proofs.Common.{◌≡◌, ◌∙◌, ◌<◌, inl, inr, ℕ, List, length, Bool, IsTrue, refl, sym, ap, subst, arith}
+use Rattle.std.proofs.Common.{◌≡◌, ◌∙◌, ◌<◌, inr, ℕ, List, length, Bool, IsTrue, refl, ap, subst, arith}
 use Rattle.chain_disk.specs.OnDisk.{OnDisk, LeavesOnly, synced}
 use Rattle.chain_store.specs.Crashes.{StandsBetween}
 use Rattle.record_codec.specs.declared.entry.Entry.{Entry}
@@ -8,7 +8,6 @@ use Rattle.shop_core.specs.File.Files.{StandsFor}
 use Rattle.shop_core.specs.History.{History}
 use Rattle.shop_core.specs.Prefix.{IsPrefix}
 use Rattle.standby.specs.Chains.{ChainOnDisk}
-use Rattle.standby.specs.Following.{IsFollowing}
 use Rattle.second_disk.specs.Level.{GoesUp, IsLevel, IsNotLevel, IsReason, IsRefusal}
 use Rattle.second_disk.specs.Level.HalfLeft.{only_synced, went_up}
 use Rattle.second_disk.specs.declared.causes.LevelCause.{LevelCause}

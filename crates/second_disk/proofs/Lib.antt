@@ -1,5 +1,6 @@
 mod Blames
 mod Brought
+mod Halves
 mod Left
 mod Levelled
 mod Mirrored

@@ -1,10 +1,10 @@
 -- The mirror of two files that stand for one history.
-use Rattle.std.proofs.Common.{◌≡◌, ◌<◌, ◌≤◌, ◌^◌, ◌*◌, ◌+◌, inl, inr, ℕ, List, [], ◌++◌, length, take, refl, sym, ◌∙◌, ap, subst, subst₂, false}
+use Rattle.std.proofs.Common.{◌≡◌, ℕ, List, [], refl, sym, ◌∙◌, subst, subst₂, false}
 use Rattle.std.proofs.lemmas.List.{append-nil}
-use Rattle.chain_disk.specs.OnDisk.{OnDisk, IsSettled, LeavesOnly}
+use Rattle.chain_disk.specs.OnDisk.{OnDisk}
 use Rattle.chain_disk.specs.Runs.{weaker}
 use Rattle.chain_store.specs.Ready.{Holds}
-use Rattle.journal.specs.File.{IsAt, IsAtSome, IsFile, closing_gate}
+use Rattle.journal.specs.File.{IsAt, IsAtSome, IsFile}
 use Rattle.journal.specs.Tails.{HaveOneByte, KeepsGate}
 use Rattle.journal.specs.declared.tails.TailFault.{TailFault}
 use Rattle.journal.specs.declared.tails.TailFault.TheVariants as tail

@@ -52,10 +52,10 @@ pub record IsLevel (created : Version) (issuer : List ℕ) (first second first_n
   pub not_begun : IsNotBegun first.content → others ≡ []
   pub both_not_begun : IsNotBegun first.content → IsNotBegun second.content → version ≡ created
   --= Two files of one chain that were brought level stand for it, the longer of the two.
-  --= No body: none is written yet
+  --= No body: it is of `catch_up` of `standby`, whose clauses refuse other entries
   pub stands : StandsFor version issuer entries first_new.content
   --= Two files that were brought level hold the same bytes.
-  --= No body: none is written yet
+  --= No body: it is of `journal/make_tails_equal.equal`
   pub same : second_new.content ≡ first_new.content
   pub first_settled : IsSettled first_new
   pub second_settled : IsSettled second_new

@@ -1,3 +1,4 @@
 pub mod Causes
+pub mod Lasting
 pub mod Level
 pub mod Opened

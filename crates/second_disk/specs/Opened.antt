@@ -13,7 +13,7 @@ use Rattle.standby.specs.Chains.{ChainOnDisk}
 use Rattle.standby.specs.Following.{IsFollowing}
 use Rattle.second_disk.specs.Level.{FirstEnd, GoesUp, SecondEnd}
 use Rattle.second_disk.specs.declared.causes.LevelCause.{LevelCause}
-use Rattle.second_disk.specs.declared.causes.LevelCause.TheVariants.{DiskFault, Damaged, OtherIssuer, OtherVersion, NotBegun, Differs, Ahead, OtherGate, NoMemory}
+use Rattle.second_disk.specs.declared.causes.LevelCause.TheVariants.{DiskFault, Differs, Ahead, OtherGate, NoMemory}
 
 -- What their disks tell of it. Where the second one has an entry, nothing was written.
 pub record AreFound (created : Version) (issuer : List ℕ) (first second first_new second_new : OnDisk) {D M : Type 0}

@@ -2,6 +2,7 @@
 //! two is left goes on as the chain.
 //!
 //! - `causes`: why a second file can't stand beside a first one
+//! - `lasting`: the law that what lasts of the mirror lasts of either half
 //! - `levelling`: brings two files level
 //! - `opening`: opens both files, and begins those that aren't begun
 //!
@@ -9,8 +10,10 @@
 #![tactic(auto)]
 
 mod causes;
+mod lasting;
 mod levelling;
 mod opening;
 
 pub use causes::{Half, LevelCause};
+pub use lasting::each_half_goes_on;
 pub use levelling::{NotLevel, level};

@@ -1,4 +1,4 @@
-use Rattle.std.proofs.Common.{◌≡◌, ◌∙◌, List, Bool, IsTrue, Result, Err, false, refl, sym, ap, subst, subst₂}
+use Rattle.std.proofs.Common.{◌∙◌, Bool, IsTrue, Result, Err, sym, ap, subst, subst₂}
 use Rattle.chain_disk.specs.Memory.{fresh}
 use Rattle.chain_disk.specs.OnDisk.{OnDisk}
 use Rattle.journal.specs.declared.tails.TailFault.{TailFault}

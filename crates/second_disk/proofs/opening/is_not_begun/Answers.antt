@@ -1,4 +1,3 @@
-use Rattle.std.proofs.Common.{sym}
 use Rattle.journal.specs.declared.reading.Header.TheVariants.{NotBegun}
 use Rattle.second_disk.proofs.opening.is_not_begun.Goals as goal
 

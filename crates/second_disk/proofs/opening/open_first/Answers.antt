@@ -1,5 +1,5 @@
-use Rattle.std.proofs.Common.{◌≡◌, ◌<◌, ◌∙◌, ℕ, List, length, sym, ap, subst, subst₂}
-use Rattle.chain_disk.specs.OnDisk.{LeavesOnly, OnDisk, synced}
+use Rattle.std.proofs.Common.{◌≡◌, ◌∙◌, sym, ap, subst, subst₂}
+use Rattle.chain_disk.specs.OnDisk.{LeavesOnly, synced}
 use Rattle.chain_store.specs.Opening.{IsFound}
 use Rattle.record_fields.specs.declared.versions.Version.{Version}
 use Rattle.standby.specs.Starting.{IsLeftUnstarted}

@@ -1,5 +1,5 @@
-use Rattle.std.proofs.Common.{◌≡◌, ◌<◌, ◌∙◌, inl, inr, ℕ, List, [], length, refl, sym, ap, subst, subst₂, arith}
-use Rattle.chain_disk.specs.OnDisk.{OnDisk, synced}
+use Rattle.std.proofs.Common.{◌≡◌, ◌<◌, ◌∙◌, inl, inr, [], length, refl, sym, ap, subst, subst₂, arith}
+use Rattle.chain_disk.specs.OnDisk.{synced}
 use Rattle.record_fields.specs.declared.versions.Version.{Version}
 use Rattle.shop_core.specs.History.{History}
 use Rattle.second_disk.specs.Level.{GoesUp, IsNotLevel}
