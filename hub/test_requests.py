@@ -596,7 +596,7 @@ class FuzzTest(OverAHub):
         self.paths = [path for path in self.description.paths if path not in ELSEWHERE]
 
     def test_every_answer_fits_its_schema(self) -> None:
-        random_ = random.Random(73)
+        random_ = random.Random(74)
         seen: Counter[str] = Counter()
         connection = http.client.HTTPConnection(self.hub.address, self.hub.port, timeout=60)
         for number in range(5_000 if Options.is_whole() else 500):
