@@ -52,7 +52,6 @@ pub record IsLevel (created : Version) (issuer : List ℕ) (first second first_n
   pub not_begun : IsNotBegun first.content → others ≡ []
   pub both_not_begun : IsNotBegun first.content → IsNotBegun second.content → version ≡ created
   --= Two files of one chain that were brought level stand for it, the longer of the two.
-  --= No body: it is of `catch_up` of `standby`, whose clauses refuse other entries
   pub stands : StandsFor version issuer entries first_new.content
   --= Two files that were brought level hold the same bytes.
   --= No body: it is of `journal/make_tails_equal.equal`
@@ -130,7 +129,6 @@ pub record IsNotLevel (issuer : List ℕ) (cause : LevelCause) (first second fir
   pub second_left : HalfLeft issuer SecondEnd first.content second second_new
   pub reason : IsReason issuer cause first second first_new second_new
   --= Where the two hold anything else nothing is written to either.
-  --= No body: none is written yet
   pub refused : IsRefusal cause → IsUnwritten first first_new × IsUnwritten second second_new
 
 -- the disk that is named failed
