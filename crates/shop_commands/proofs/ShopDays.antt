@@ -298,6 +298,9 @@ module _ {D C Z G : Type 0} (h : StoreKind D C) (issuer : List ℕ) (asks : List
           omega (arith, more, same),
     )
 
+    later : IsLater h.coming opened.clock r.new.clock
+    later = let stamped = r.run.sound.clock in record { number = stamped.number; moved = stamped.moved }
+
     -- the day of an opened store is one of its file, from its opening on
     pub day_facts : IsDayOf issuer asks plan drains call outcome
     day_facts = record {
@@ -309,7 +312,7 @@ module _ {D C Z G : Type 0} (h : StoreKind D C) (issuer : List ℕ) (asks : List
       session = r.session;
       gives_up = gives_up;
       time = subst (λ (c : C). IsLater h.coming clock c) (sym r.clock) (subst (λ (c : C). IsLater h.coming c r.new.clock)
-          same_clock r.run.sound.clock);
+          same_clock later);
     }
 
 -- a till run by readings of one kind is one by readings of another kind that gives the same

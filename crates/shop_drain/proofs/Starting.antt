@@ -46,7 +46,13 @@ module _ {D C : Type 0} (tells : Bool) (on_disk : D → OnDisk) (faults : D → 
     version = refl;
     legal = legal;
     begins = front_all p.state.entries;
-    clock = record { number = 0; moved = λ k. ap (coming p.clock) (sym (zero-add k)) };
+    clock = record {
+      number = 0;
+      moved = λ k. ap (coming p.clock) (sym (zero-add k));
+      since = [];
+      since_is = sym (append-nil p.state.entries);
+      in_turn = omega arith;
+    };
     crashes = λ says.
         let holds : Holds p.state p.gate (on_disk p.disk) = ready.holds going says in
         let stands : StandsFor p.state.version p.state.issuer p.state.entries (on_disk p.disk).content = record {

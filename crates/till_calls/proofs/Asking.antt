@@ -1,6 +1,6 @@
 -- What a till's ask does to a sound shop, and what its list of items then is.
 use Rattle.std.proofs.Common.{◌≡◌, ◌⊎◌, ◌↔◌, inl, inr, ℕ, ◌≤◌, length, length-append, List, [], ◌∷◌, ◌++◌, map, ◌+◌, sym, ◌∙◌, ap}
-use Rattle.std.proofs.Common.{subst, refl, Bool, IsTrue, IsSome, is_some, true, Option, Some, None, Result, Ok, Err}
+use Rattle.std.proofs.Common.{subst, refl, arith, Bool, IsTrue, IsSome, is_some, true, Option, Some, None, Result, Ok, Err}
 use Rattle.std.specs.Prelude.{OnOk}
 use Rattle.std.proofs.lemmas.List.{append-nil, map-append, length-map}
 use Rattle.record_fields.specs.declared.versions.Version.{Version}
@@ -24,10 +24,12 @@ use Rattle.shop_core.specs.Answer.Replies.{Tells}
 use Rattle.shop_core.specs.declared.answer.Planned.{Planned}
 use Rattle.shop_core.specs.declared.answer.Planned.TheVariants.{Again, Refused, Made}
 use Rattle.shop_core.specs.declared.answer.Reply.{Reply}
+use Rattle.till_calls.specs.InTurn.{ReadInTurn}
 use Rattle.till_calls.specs.Root.{Root, Parts, stop_in, items_in}
-use Rattle.till_calls.specs.Sound.{IsSound, IsLater, HasStopped}
+use Rattle.till_calls.specs.Sound.{IsSound, StampedSince, HasStopped}
 use Rattle.till_calls.specs.Turns.{IsReading, IsShopList, TillDoes, TillTurn}
 use Rattle.till_calls.proofs.Calls.{call_of}
+use Rattle.till_calls.proofs.Turning.{gained_in_turn}
 use Rattle.till_calls.proofs.Keeping.{sound_gains, sound_stays, sound_stops, between_around, later_more}
 
 -- the entries of entries, and of what stands after them
@@ -97,6 +99,9 @@ till_adds coming ask (Err DiskFault) root before after t = inr (
 till_adds coming ask (Err (Stopped count)) root before after s = inl s.0
 till_adds coming ask (Err NoMemory) root before after e = inl e.0
 
+plus_none : (n : ℕ) → n + 0 ≡ n
+plus_none n = omega arith
+
 module _ {D C : Type 0} (tells : Bool) (on_disk : D → OnDisk) (faults : D → ℕ) (coming : C → ℕ → Option ℕ) (root : Root C) where
   -- what one ask of the store does, in its parts
   pub record Took (p q : Parts D C) (ask : Asked) (r : Result Reply StoreFault) : Type 0 where
@@ -138,7 +143,11 @@ module _ {D C : Type 0} (tells : Bool) (on_disk : D → OnDisk) (faults : D → 
   took_going p q ask (Ok reply) s going t =
       let takes = t.takes going in
       let planned = answer p.state.version p.state.issuer p.state.entries ask takes.seconds in
-      let clock : IsLater coming root.clock q.clock = later_more coming root.clock p.clock q.clock 1 s.clock takes.moved in
+      let clock : StampedSince coming root q.clock q.state.entries = later_more coming root p.clock q.clock p.state.entries takes.gained
+      q.state.entries 1 s.clock takes.moved takes.entries
+      (gained_in_turn (coming root.clock) s.clock.number p.state.version p.state.issuer p.state.entries ask takes.seconds reply takes.gained
+      (subst (λ (k : ℕ). IsTold (coming root.clock k) takes.seconds) (plus_none s.clock.number)
+      (subst (λ (o : Option ℕ). IsTold o takes.seconds) (s.clock.moved 0) takes.reading)) takes.reply) in
       let sound = sound_gains tells on_disk faults coming root p q takes.gained (StandsAround p.state.version p.state.issuer p.state.entries planned)
       s going t.going_on.1 t.ready takes.issuer takes.version t.legal takes.entries clock
       takes.any_moment t.never_loses (λ c h. between_around root.version root.issuer root.history p.state.entries takes.gained planned reply c s.begins
@@ -163,7 +172,10 @@ module _ {D C : Type 0} (tells : Bool) (on_disk : D → OnDisk) (faults : D → 
       let fault = t.fault refl in
       let same : q.state.entries ≡ p.state.entries = takes.entries ∙ ap (λ (l : List Entry). p.state.entries ++ l) takes.reply ∙
       append-nil p.state.entries in
-      let clock : IsLater coming root.clock q.clock = later_more coming root.clock p.clock q.clock 1 s.clock takes.moved in
+      let clock : StampedSince coming root q.clock q.state.entries = later_more coming root p.clock q.clock p.state.entries takes.gained
+      q.state.entries 1 s.clock takes.moved takes.entries
+      (subst (λ (es : List Entry). ReadInTurn (coming root.clock) s.clock.number (s.clock.number + 1) p.state.entries es)
+      (sym takes.reply) (omega arith)) in
       let sound = sound_stops tells on_disk faults coming root p q tears.entry (faults q.disk) s going fault.1 tears.entry_is refl
       t.ready takes.issuer takes.version same tears.continues clock tears.any_moment t.never_loses fault.0
       t.later in
@@ -189,7 +201,10 @@ module _ {D C : Type 0} (tells : Bool) (on_disk : D → OnDisk) (faults : D → 
       let disk = t.no_memory refl in
       let same : q.state.entries ≡ p.state.entries = takes.entries ∙ ap (λ (l : List Entry). p.state.entries ++ l) takes.reply ∙
       append-nil p.state.entries in
-      let clock : IsLater coming root.clock q.clock = later_more coming root.clock p.clock q.clock 1 s.clock takes.moved in
+      let clock : StampedSince coming root q.clock q.state.entries = later_more coming root p.clock q.clock p.state.entries takes.gained
+      q.state.entries 1 s.clock takes.moved takes.entries
+      (subst (λ (es : List Entry). ReadInTurn (coming root.clock) s.clock.number (s.clock.number + 1) p.state.entries es)
+      (sym takes.reply) (omega arith)) in
       let goes : q.stopped ≡ None = disk.1 ∙ going in
       let sound = sound_stays tells on_disk faults coming root p q s going goes disk.0 t.ready takes.issuer takes.version same clock
       in

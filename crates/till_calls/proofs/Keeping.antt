@@ -20,7 +20,9 @@ use Rattle.shop_core.specs.declared.answer.Planned.{Planned}
 use Rattle.shop_core.specs.declared.answer.Planned.TheVariants.{Again, Refused, Made}
 use Rattle.shop_core.specs.declared.answer.Reply.{Reply}
 use Rattle.till_calls.specs.Root.{Root, Parts, with_torn, root_of}
-use Rattle.till_calls.specs.Sound.{Leaves, IsLater, IsSound}
+use Rattle.till_calls.specs.InTurn.{ReadInTurn}
+use Rattle.till_calls.proofs.Turning.{in_turn_more}
+use Rattle.till_calls.specs.Sound.{Leaves, StampedSince, IsSound}
 
 pub none_torn : (history : List Entry) (stopped : Option ℕ) (torn : Option Entry) → stopped ≡ None →
     with_torn history stopped torn ≡ history
@@ -91,17 +93,33 @@ between_around version issuer start entries gained (Made entry) reply c begins t
     subst (λ (es : List Entry). StandsBetween version issuer start (entries ++ es) c) (sym tells.1) (between_with version issuer start entries
     entry c begins stands)
 
-pub later_more : {C : Type 0} (coming : C → ℕ → Option ℕ) (start now next : C) (n : ℕ) → IsLater coming start now →
-    MovedBy n (coming now) (coming next) → IsLater coming start next
-later_more coming start now next n h moved = record {
+-- the clock after n readings more, the last entries being the gained ones
+pub later_more : {C : Type 0} (coming : C → ℕ → Option ℕ) (root : Root C) (now next : C) (entries gained after : List Entry) (n : ℕ) →
+    (h : StampedSince coming root now entries) → MovedBy n (coming now) (coming next) → after ≡ entries ++ gained →
+    ReadInTurn (coming root.clock) h.number (h.number + n) entries gained → StampedSince coming root next after
+later_more coming root now next entries gained after n h moved is turn = record {
   number = h.number + n;
   moved = λ k. moved k ∙ h.moved (n + k) ∙
-      ap (coming start) (sym (add_assoc h.number n k));
+      ap (coming root.clock) (sym (add_assoc h.number n k));
+  since = h.since ++ gained;
+  since_is = is ∙ ap (λ (es : List Entry). es ++ gained) h.since_is ∙ append_assoc root.history h.since gained;
+  in_turn = in_turn_more (coming root.clock) 0 h.number (h.number + n) root.history h.since gained h.in_turn
+      (subst (λ (es : List Entry). ReadInTurn (coming root.clock) h.number (h.number + n) es gained) h.since_is turn);
 }
 
-pub later_same : {C : Type 0} (coming : C → ℕ → Option ℕ) (start now next : C) → IsLater coming start now → next ≡ now →
-    IsLater coming start next
-later_same {C = C} coming start now next h e = subst (λ (c : C). IsLater coming start c) (sym e) h
+-- the clock as it was, and an entry that is no record, or none
+pub later_same : {C : Type 0} (coming : C → ℕ → Option ℕ) (root : Root C) (now next : C) (entries gained after : List Entry) →
+    (h : StampedSince coming root now entries) → next ≡ now → after ≡ entries ++ gained →
+    ReadInTurn (coming root.clock) h.number h.number entries gained → StampedSince coming root next after
+later_same {C = C} coming root now next entries gained after h e is turn =
+    subst (λ (c : C). StampedSince coming root c after) (sym e) (record {
+      number = h.number;
+      moved = h.moved;
+      since = h.since ++ gained;
+      since_is = is ∙ ap (λ (es : List Entry). es ++ gained) h.since_is ∙ append_assoc root.history h.since gained;
+      in_turn = in_turn_more (coming root.clock) 0 h.number h.number root.history h.since gained h.in_turn
+          (subst (λ (es : List Entry). ReadInTurn (coming root.clock) h.number h.number es gained) h.since_is turn);
+    })
 
 module _ {D C : Type 0} (tells : Bool) (on_disk : D → OnDisk) (faults : D → ℕ) (coming : C → ℕ → Option ℕ) (root : Root C) where
   abbrev Sound : Parts D C → Type 0
@@ -113,7 +131,7 @@ module _ {D C : Type 0} (tells : Bool) (on_disk : D → OnDisk) (faults : D → 
       IsReady tells q.state q.stopped q.gate (on_disk q.disk) → q.state.issuer ≡ p.state.issuer →
       q.state.version ≡ p.state.version → Legal q.state.version q.state.issuer q.state.entries →
       q.state.entries ≡ p.state.entries ++ gained →
-      IsLater coming root.clock q.clock → (IsTrue tells → LeavesOnly (on_disk p.disk) (on_disk q.disk) P) →
+      StampedSince coming root q.clock q.state.entries → (IsTrue tells → LeavesOnly (on_disk p.disk) (on_disk q.disk) P) →
       (IsTrue tells → NeverLoses (on_disk p.disk) (on_disk q.disk)) →
       ((c : List ℕ) → P c → StandsBetween root.version root.issuer root.history (p.state.entries ++ gained) c) →
       (IsTrue tells → LeavesNow (on_disk q.disk) (StandsFor q.state.version q.state.issuer q.state.entries)) → faults p.disk ≤ faults q.disk →
@@ -153,7 +171,7 @@ module _ {D C : Type 0} (tells : Bool) (on_disk : D → OnDisk) (faults : D → 
   pub sound_stays : (p q : Parts D C) → Sound p → p.stopped ≡ None → q.stopped ≡ None → q.disk ≡ p.disk →
       IsReady tells q.state q.stopped q.gate (on_disk q.disk) → q.state.issuer ≡ p.state.issuer →
       q.state.version ≡ p.state.version → q.state.entries ≡ p.state.entries →
-      IsLater coming root.clock q.clock → Sound q
+      StampedSince coming root q.clock q.state.entries → Sound q
   sound_stays p q s going goes disk ready issuer version entries clock = record {
     ready = ready;
     issuer = issuer ∙ s.issuer;
@@ -178,7 +196,7 @@ module _ {D C : Type 0} (tells : Bool) (on_disk : D → OnDisk) (faults : D → 
       IsReady tells q.state q.stopped q.gate (on_disk q.disk) → q.state.issuer ≡ p.state.issuer →
       q.state.version ≡ p.state.version → q.state.entries ≡ p.state.entries →
       Continues p.state.version p.state.issuer p.state.entries entry →
-      IsLater coming root.clock q.clock → (IsTrue tells → LeavesOnly (on_disk p.disk) (on_disk q.disk)
+      StampedSince coming root q.clock q.state.entries → (IsTrue tells → LeavesOnly (on_disk p.disk) (on_disk q.disk)
       (StandsBeforeOrWith p.state.version p.state.issuer p.state.entries entry)) →
       (IsTrue tells → NeverLoses (on_disk p.disk) (on_disk q.disk)) →
       Rose (faults p.disk) (faults q.disk) → faults p.disk ≤ faults q.disk → Sound q
@@ -247,7 +265,13 @@ module _ {D C : Type 0} (tells : Bool) (on_disk : D → OnDisk) (faults : D → 
     version = refl;
     legal = legal;
     begins = front_all p.state.entries;
-    clock = record { number = 0; moved = λ k. ap (coming p.clock) (sym (zero-add k)) };
+    clock = record {
+      number = 0;
+      moved = λ k. ap (coming p.clock) (sym (zero-add k));
+      since = [];
+      since_is = sym (append-nil p.state.entries);
+      in_turn = omega arith;
+    };
     crashes = λ says.
         let holds : Holds p.state p.gate (on_disk p.disk) = ready.holds going says in
         let stands : StandsFor p.state.version p.state.issuer p.state.entries (on_disk p.disk).content = record {

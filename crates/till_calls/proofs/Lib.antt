@@ -11,3 +11,4 @@ mod Looking
 mod Learning
 mod Seeing
 mod Noting
+mod Turning

@@ -1,8 +1,8 @@
 -- What the seat's note does to a sound shop.
-use Rattle.std.proofs.Common.{◌≡◌, ◌↔◌, inl, inr, ℕ, ◌≤◌, length, List, [], ◌∷◌, ◌++◌, map, sym, ◌∙◌, ap, subst, refl, Bool}
+use Rattle.std.proofs.Common.{◌≡◌, ◌↔◌, inl, inr, ℕ, ◌≤◌, length, List, [], ◌∷◌, ◌++◌, map, sym, ◌∙◌, ap, subst, refl, arith, Bool}
 use Rattle.std.proofs.Common.{IsTrue, Option, Some, None, Result, Ok, Err}
 use Rattle.std.specs.Prelude.{OnOk, OnErr}
-use Rattle.std.proofs.lemmas.List.{map-append}
+use Rattle.std.proofs.lemmas.List.{append-nil, map-append}
 use Rattle.chain_disk.specs.OnDisk.{OnDisk, LeavesNow, LeavesOnly}
 use Rattle.chain_lock.specs.Lists.{MayAdd}
 use Rattle.chain_store.specs.Losing.{NeverLoses}
@@ -20,7 +20,7 @@ use Rattle.shop_core.specs.declared.items.Item.{Item}
 use Rattle.shop_core.specs.declared.items.Item.TheVariants as item
 use Rattle.shop_core.specs.Legal.{Legal}
 use Rattle.till_calls.specs.Root.{Root, Parts, items_in}
-use Rattle.till_calls.specs.Sound.{IsSound, IsLater, HasStopped}
+use Rattle.till_calls.specs.Sound.{IsSound, StampedSince, HasStopped}
 use Rattle.till_calls.specs.Turns.{SeatDoes, SeatTurn, Notes_behind}
 use Rattle.till_calls.proofs.Calls.{call_of}
 use Rattle.till_calls.proofs.Asking.{entries_in, items_going, items_stopped, list_of}
@@ -62,7 +62,8 @@ module _ {D C : Type 0} (tells : Bool) (on_disk : D → OnDisk) (faults : D → 
       IsSound tells on_disk faults coming root q × SeatTurn lines r root (items_in p) (items_in q)
   notes p q lines (Ok done) s going t =
       let e = Notes (length (noted p.state.entries)) lines in
-      let clock : IsLater coming root.clock q.clock = later_same coming root.clock p.clock q.clock s.clock t.clock in
+      let clock : StampedSince coming root q.clock q.state.entries = later_same coming root p.clock q.clock p.state.entries (e ∷ [])
+      q.state.entries s.clock t.clock t.added (omega arith) in
       let sound = sound_gains tells on_disk faults coming root p q (e ∷ []) (StandsBeforeOrWith p.state.version p.state.issuer p.state.entries e) s
       going t.going_on.1 t.ready t.issuer t.version t.legal t.added clock t.any_moment t.never_loses
       (λ c h. between_with root.version root.issuer root.history p.state.entries e c s.begins
@@ -85,7 +86,8 @@ module _ {D C : Type 0} (tells : Bool) (on_disk : D → OnDisk) (faults : D → 
       let e = Notes (length (noted p.state.entries)) lines in
       let fault = t.fault refl in
       let torn : q.torn ≡ Some e = (t.torn refl).entry_is in
-      let clock : IsLater coming root.clock q.clock = later_same coming root.clock p.clock q.clock s.clock t.clock in
+      let clock : StampedSince coming root q.clock q.state.entries = later_same coming root p.clock q.clock p.state.entries []
+      q.state.entries s.clock t.clock (t.same ∙ sym (append-nil p.state.entries)) (omega arith) in
       let sound = sound_stops tells on_disk faults coming root p q e (faults q.disk) s going fault.1 torn refl t.ready t.issuer
       t.version
       t.same (t.torn refl).continues clock t.any_moment t.never_loses fault.0 t.later in
@@ -112,7 +114,8 @@ module _ {D C : Type 0} (tells : Bool) (on_disk : D → OnDisk) (faults : D → 
       let disk = t.no_memory refl in
       let goes : q.stopped ≡ None = disk.1 ∙ going in
       let sound = sound_stays tells on_disk faults coming root p q s going goes disk.0 t.ready t.issuer t.version t.same
-      (later_same coming root.clock p.clock q.clock s.clock t.clock) in (
+      (later_same coming root p.clock q.clock p.state.entries [] q.state.entries s.clock t.clock
+      (t.same ∙ sym (append-nil p.state.entries)) (omega arith)) in (
         sound,
         record {
           list = list_of tells on_disk faults coming root q sound;

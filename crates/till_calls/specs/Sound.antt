@@ -1,5 +1,5 @@
 -- What holds of a shop's store whenever no turn is under way.
-use Rattle.std.specs.Prelude.{◌≡◌, ◌⊎◌, ◌≤◌, ℕ, List, Bool, IsTrue, Option, Some}
+use Rattle.std.specs.Prelude.{◌≡◌, ◌⊎◌, ◌≤◌, ℕ, List, ◌++◌, Bool, IsTrue, Option, Some}
 use Rattle.chain_disk.specs.OnDisk.{OnDisk, LeavesOnly, LeavesNow}
 use Rattle.chain_lock.specs.Lists.{StartsWith}
 use Rattle.chain_store.specs.Crashes.{StandsBetween}
@@ -11,6 +11,7 @@ use Rattle.ports.specs.Readings.{MovedBy}
 use Rattle.record_codec.specs.declared.entry.Entry.{Entry}
 use Rattle.record_fields.specs.declared.versions.Version.{Version}
 use Rattle.shop_core.specs.Legal.{Legal, Continues}
+use Rattle.till_calls.specs.InTurn.{ReadInTurn}
 use Rattle.till_calls.specs.Root.{Root, Parts, with_torn}
 
 -- the file stands for the one history or for the other
@@ -32,10 +33,18 @@ pub record HasStopped {D C : Type 0} (faults : D → ℕ) (root : Root C) (p : P
   pub rose : Rose root.faults count
   pub within : count ≤ faults p.disk
 
--- the clock is the root's after some readings
+-- the clock is this one after some readings
 pub record IsLater {C : Type 0} (coming : C → ℕ → Option ℕ) (start now : C) : Type 0 where
   pub number : ℕ
   pub moved : MovedBy number (coming start) (coming now)
+
+-- the clock is the root's after some readings; the records since then were stamped by these, each by one of its own, in turn
+pub record StampedSince {C : Type 0} (coming : C → ℕ → Option ℕ) (root : Root C) (now : C) (entries : List Entry) : Type 0 where
+  pub number : ℕ
+  pub moved : MovedBy number (coming root.clock) (coming now)
+  pub since : List Entry
+  pub since_is : entries ≡ root.history ++ since
+  pub in_turn : ReadInTurn (coming root.clock) 0 number root.history since
 
 -- what a shop's store keeps
 pub record IsSound {D C : Type 0} (tells : Bool) (on_disk : D → OnDisk) (faults : D → ℕ) (coming : C → ℕ → Option ℕ)
@@ -46,7 +55,7 @@ pub record IsSound {D C : Type 0} (tells : Bool) (on_disk : D → OnDisk) (fault
   pub version : p.state.version ≡ root.version
   pub legal : Legal root.version root.issuer p.state.entries
   pub begins : StartsWith p.state.entries root.history
-  pub clock : IsLater coming root.clock p.clock
+  pub clock : StampedSince coming root p.clock p.state.entries
   pub crashes : IsTrue tells → Leaves root p.state.entries (with_torn p.state.entries p.stopped p.torn) (on_disk p.disk)
   pub stop : (count : ℕ) → p.stopped ≡ Some count → HasStopped faults root p count
   pub later : root.faults ≤ faults p.disk
