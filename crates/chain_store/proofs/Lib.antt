@@ -9,3 +9,4 @@ mod EachElement
 mod Stepping
 mod Finishing
 mod Taken
+mod Reading

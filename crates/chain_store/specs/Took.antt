@@ -13,6 +13,10 @@ use Rattle.chain_store.specs.Store.{Acknowledged, GoesOn, IsAppended, IsLater, I
 use Rattle.chain_store.specs.Store.{clock_of, journal_of, state_of, this_call, torn_of}
 use Rattle.chain_store.specs.declared.store.Store.{Store}
 
+-- a clock of any type, where whoever asks gives the reading: each answer is that one, and the clock stays as it is
+abbrev pub read_at : {C : Type 0} → ℕ → clock.Ghosts C
+read_at seconds = record { last = λ c. seconds; coming = λ c k. Some seconds; by_readings = λ a b. b ≡ a }
+
 -- one ask, of a store as it was and as it is then
 pub record Took {D C : Type 0} (d : disk.Ghosts D) (c : clock.Ghosts C) (old new : Store D C d) (ask : Asked)
     (replied : Result Reply StoreFault) : Type 0 where

@@ -36,7 +36,7 @@ pub struct Store<D: Disk, C: Clock> {
 
 impl<D: Disk, C: Clock> Store<D, C> {
     ghost use Rattle.journal.specs.Journal.{disk_of, end_of, stopped_of};
-    ghost use Rattle.chain_store.specs.Took.{Took};
+    ghost use Rattle.chain_store.specs.Took.{Took, read_at};
     ghost use Rattle.chain_store.specs.Store.{Acknowledged, Adds, GoesOn, IsAppended, IsLater, IsStoppedByFault, LosesNothing, Ready};
     ghost use Rattle.chain_store.specs.Store.{Writes};
     ghost use Rattle.chain_store.specs.Store.{clock_of, journal_of, state_of, this_call, torn_of};
@@ -120,6 +120,23 @@ impl<D: Disk, C: Clock> Store<D, C> {
             return Err(StoreFault::Stopped { faults });
         }
         let seconds = self.clock.now();
+        self.take_at(alloc, ask, seconds)
+    }
+
+    /// The same at a reading that is given. The store's own clock stays as it is.
+    pub fn take_at(
+        &mut self,
+        alloc: Global,
+        ask: &Asking,
+        seconds: u64,
+    ) -> Result<Reply, StoreFault>
+        requires { Ready D.tells D.on_disk self.old }
+        //= An ask at a reading that is given is answered at that one, and the store's own clock stays as it is.
+        ensures taken { Took D.Disk (read_at seconds) self.old self.new ask.now result }
+    {
+        if let Some(faults) = self.journal.stopped() {
+            return Err(StoreFault::Stopped { faults });
+        }
         what_is_made_is_a_record();
         self.state.is_legal();
         match plan_asking(alloc, &self.state, ask, seconds) {

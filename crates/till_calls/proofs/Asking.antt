@@ -12,7 +12,7 @@ use Rattle.shop_core.specs.File.Files.{StandsFor, StandsAround}
 use Rattle.journal.specs.declared.faults.StoreFault.{StoreFault}
 use Rattle.journal.specs.declared.faults.StoreFault.TheVariants.{DiskFault, Stopped, NoMemory}
 use Rattle.ports.specs.Causes.{Rose}
-use Rattle.ports.specs.Readings.{IsTold}
+use Rattle.ports.specs.Readings.{IsTold, MovedBy}
 use Rattle.record_codec.specs.declared.entry.Entry.{Entry}
 use Rattle.shop_core.specs.Answer.Plans.{answer}
 use Rattle.shop_core.specs.Answer.Requests.{Asked}
@@ -118,36 +118,37 @@ module _ {D C : Type 0} (tells : Bool) (on_disk : D → OnDisk) (faults : D → 
     pub untouched : IsSome p.stopped → q ≡ p
     pub later : faults p.disk ≤ faults q.disk
 
-  abbrev Outcome : Parts D C → Asked → Result Reply StoreFault → Parts D C → Type 0
-  Outcome p ask r q = IsSound tells on_disk faults coming root q × TillTurn coming ask r root (items_in p) (items_in q)
-
-  reading_of : (p : Parts D C) (seconds : ℕ) → IsSound tells on_disk faults coming root p → IsTold (coming p.clock 0) seconds →
-      IsReading coming root seconds
-  reading_of p seconds s told_it = record {
-    number = s.clock.number + 0;
-    told = subst (λ (o : Option ℕ). IsTold o seconds) (s.clock.moved 0) told_it;
-  }
-
   pub list_of : (q : Parts D C) → IsSound tells on_disk faults coming root q → IsShopList root (items_in q)
   list_of q s = record {
     legal = subst (λ (es : List Entry). Legal root.version root.issuer es) (sym (entries_in q)) s.legal;
     begins = subst (λ (es : List Entry). StartsWith es root.history) (sym (entries_in q)) s.begins;
   }
 
-  outcome : (p q : Parts D C) (ask : Asked) (r : Result Reply StoreFault) → IsSound tells on_disk faults coming root q →
-      TillDoes coming ask r root (items_in p) (items_in q) → Outcome p ask r q
-  outcome p q ask r s does = (s, record { list = list_of q s; does = does })
+-- One ask of a store, in a shop that is sound by one clock, at readings that another one tells.
+module _ {D C : Type 0} (tells : Bool) (on_disk : D → OnDisk) (faults : D → ℕ) (coming asked : C → ℕ → Option ℕ) (root : Root C) where
+  -- what is read by the one was read by the other too, and is a reading of its own
+  record Reads (p q : Parts D C) : Type 0 where
+    told : (seconds : ℕ) → IsTold (asked p.clock 0) seconds → IsTold (coming p.clock 0) seconds
+    turn : (seconds : ℕ) → IsTold (asked p.clock 0) seconds → IsReading asked root seconds
+    moved : MovedBy 1 (asked p.clock) (asked q.clock) → MovedBy 1 (coming p.clock) (coming q.clock)
 
-  took_going : (p q : Parts D C) (ask : Asked) (r : Result Reply StoreFault) → IsSound tells on_disk faults coming root p →
-      p.stopped ≡ None → Took p q ask r → Outcome p ask r q
-  took_going p q ask (Ok reply) s going t =
+  abbrev Outcome : Parts D C → Asked → Result Reply StoreFault → Parts D C → Type 0
+  Outcome p ask r q = IsSound tells on_disk faults coming root q × TillTurn asked ask r root (items_in p) (items_in q)
+
+  outcome : (p q : Parts D C) (ask : Asked) (r : Result Reply StoreFault) → IsSound tells on_disk faults coming root q →
+      TillDoes asked ask r root (items_in p) (items_in q) → Outcome p ask r q
+  outcome p q ask r s does = (s, record { list = list_of tells on_disk faults coming root q s; does = does })
+
+  took_going : (p q : Parts D C) (ask : Asked) (r : Result Reply StoreFault) → Reads p q → IsSound tells on_disk faults coming root p →
+      p.stopped ≡ None → Took tells on_disk faults asked root p q ask r → Outcome p ask r q
+  took_going p q ask (Ok reply) h s going t =
       let takes = t.takes going in
       let planned = answer p.state.version p.state.issuer p.state.entries ask takes.seconds in
       let clock : StampedSince coming root q.clock q.state.entries = later_more coming root p.clock q.clock p.state.entries takes.gained
-      q.state.entries 1 s.clock takes.moved takes.entries
+      q.state.entries 1 s.clock (h.moved takes.moved) takes.entries
       (gained_in_turn (coming root.clock) s.clock.number p.state.version p.state.issuer p.state.entries ask takes.seconds reply takes.gained
       (subst (λ (k : ℕ). IsTold (coming root.clock k) takes.seconds) (plus_none s.clock.number)
-      (subst (λ (o : Option ℕ). IsTold o takes.seconds) (s.clock.moved 0) takes.reading)) takes.reply) in
+      (subst (λ (o : Option ℕ). IsTold o takes.seconds) (s.clock.moved 0) (h.told takes.seconds takes.reading))) takes.reply) in
       let sound = sound_gains tells on_disk faults coming root p q takes.gained (StandsAround p.state.version p.state.issuer p.state.entries planned)
       s going t.going_on.1 t.ready takes.issuer takes.version t.legal takes.entries clock
       takes.any_moment t.never_loses (λ c h. between_around root.version root.issuer root.history p.state.entries takes.gained planned reply c s.begins
@@ -158,7 +159,7 @@ module _ {D C : Type 0} (tells : Bool) (on_disk : D → OnDisk) (faults : D → 
         history = p.state.entries;
         going_on = items_going p going;
         seconds = takes.seconds;
-        reading = reading_of p takes.seconds s takes.reading;
+        reading = h.turn takes.seconds takes.reading;
         gained = takes.gained;
         tells = subst (λ (v : Version). Tells p.state.entries (answer v root.issuer p.state.entries ask takes.seconds) reply
             takes.gained) s.version
@@ -166,14 +167,14 @@ module _ {D C : Type 0} (tells : Bool) (on_disk : D → OnDisk) (faults : D → 
             takes.gained) s.issuer takes.reply);
         after_is = items_going q t.going_on.1 ∙ ap (λ (es : List Entry). map item.Entry es) takes.entries;
       })
-  took_going p q ask (Err DiskFault) s going t =
+  took_going p q ask (Err DiskFault) h s going t =
       let takes = t.takes going in
       let tears = t.torn refl in
       let fault = t.fault refl in
       let same : q.state.entries ≡ p.state.entries = takes.entries ∙ ap (λ (l : List Entry). p.state.entries ++ l) takes.reply ∙
       append-nil p.state.entries in
       let clock : StampedSince coming root q.clock q.state.entries = later_more coming root p.clock q.clock p.state.entries takes.gained
-      q.state.entries 1 s.clock takes.moved takes.entries
+      q.state.entries 1 s.clock (h.moved takes.moved) takes.entries
       (subst (λ (es : List Entry). ReadInTurn (coming root.clock) s.clock.number (s.clock.number + 1) p.state.entries es)
       (sym takes.reply) (omega arith)) in
       let sound = sound_stops tells on_disk faults coming root p q tears.entry (faults q.disk) s going fault.1 tears.entry_is refl
@@ -184,7 +185,7 @@ module _ {D C : Type 0} (tells : Bool) (on_disk : D → OnDisk) (faults : D → 
         history = p.state.entries;
         going_on = items_going p going;
         seconds = tears.seconds;
-        reading = reading_of p tears.seconds s tears.reading;
+        reading = h.turn tears.seconds tears.reading;
         torn = tears.entry;
         made = subst (λ (v : Version). answer v root.issuer p.state.entries ask tears.seconds ≡ Made tears.entry) s.version
             (subst (λ (n : List ℕ). answer p.state.version n p.state.entries ask tears.seconds ≡ Made tears.entry) s.issuer
@@ -194,15 +195,15 @@ module _ {D C : Type 0} (tells : Bool) (on_disk : D → OnDisk) (faults : D → 
         after_is = items_stopped q (faults q.disk) tears.entry fault.1 tears.entry_is ∙
             ap (λ (es : List Entry). map item.Entry es ++ item.Stop (faults q.disk) tears.entry ∷ []) same;
       })
-  took_going p q ask (Err (Stopped count)) s going t = absurd (let x : ◌≡◌ {A = Option ℕ} None (Some count) = sym going ∙
+  took_going p q ask (Err (Stopped count)) h s going t = absurd (let x : ◌≡◌ {A = Option ℕ} None (Some count) = sym going ∙
       (t.stopped count).0 refl in cc)
-  took_going p q ask (Err NoMemory) s going t =
+  took_going p q ask (Err NoMemory) h s going t =
       let takes = t.takes going in
       let disk = t.no_memory refl in
       let same : q.state.entries ≡ p.state.entries = takes.entries ∙ ap (λ (l : List Entry). p.state.entries ++ l) takes.reply ∙
       append-nil p.state.entries in
       let clock : StampedSince coming root q.clock q.state.entries = later_more coming root p.clock q.clock p.state.entries takes.gained
-      q.state.entries 1 s.clock takes.moved takes.entries
+      q.state.entries 1 s.clock (h.moved takes.moved) takes.entries
       (subst (λ (es : List Entry). ReadInTurn (coming root.clock) s.clock.number (s.clock.number + 1) p.state.entries es)
       (sym takes.reply) (omega arith)) in
       let goes : q.stopped ≡ None = disk.1 ∙ going in
@@ -214,23 +215,46 @@ module _ {D C : Type 0} (tells : Bool) (on_disk : D → OnDisk) (faults : D → 
       )
 
   took_stopped : (p q : Parts D C) (ask : Asked) (r : Result Reply StoreFault) (count : ℕ) → IsSound tells on_disk faults coming root
-      p → p.stopped ≡ Some count → Took p q ask r → Outcome p ask r q
+      p → p.stopped ≡ Some count → Took tells on_disk faults asked root p q ask r → Outcome p ask r q
   took_stopped p q ask r count s stopped t =
       let here : HasStopped faults root p count = s.stop count stopped in
       let is : r ≡ Err (Stopped count) = (t.stopped count).1 stopped in
       let same : q ≡ p = t.untouched (rw stopped refl) in
       let sound : IsSound tells on_disk faults coming root q = subst (λ (z : Parts D C). IsSound tells on_disk faults coming root z)
       (sym same) s in
-      outcome p q ask r sound (subst (λ (x : Result Reply StoreFault). TillDoes coming ask x root (items_in p) (items_in q))
+      outcome p q ask r sound (subst (λ (x : Result Reply StoreFault). TillDoes asked ask x root (items_in p) (items_in q))
       (sym is) (
         ap (λ (z : Parts D C). items_in z) same,
         record { history = p.state.entries; torn = here.torn; items_are = items_stopped p count here.torn stopped here.torn_is },
       ))
 
-  pub took : (p q : Parts D C) (ask : Asked) (r : Result Reply StoreFault) → IsSound tells on_disk faults coming root p →
-      Took p q ask r → Outcome p ask r q
-  took p q ask r s t = by_stop p.stopped refl
+  pub took_by : (p q : Parts D C) (ask : Asked) (r : Result Reply StoreFault) → Reads p q →
+      IsSound tells on_disk faults coming root p → Took tells on_disk faults asked root p q ask r → Outcome p ask r q
+  took_by p q ask r h s t = by_stop p.stopped refl
     where
       by_stop : (o : Option ℕ) → p.stopped ≡ o → Outcome p ask r q
-      by_stop None e = took_going p q ask r s e t
+      by_stop None e = took_going p q ask r h s e t
       by_stop (Some count) e = took_stopped p q ask r count s e t
+
+-- an ask at the shop's own clock
+module _ {D C : Type 0} (tells : Bool) (on_disk : D → OnDisk) (faults : D → ℕ) (coming : C → ℕ → Option ℕ) (root : Root C) where
+  pub took : (p q : Parts D C) (ask : Asked) (r : Result Reply StoreFault) → IsSound tells on_disk faults coming root p →
+      Took tells on_disk faults coming root p q ask r → Outcome tells on_disk faults coming coming root p ask r q
+  took p q ask r s t = took_by tells on_disk faults coming coming root p q ask r (record {
+    told = λ seconds is. is;
+    turn = λ seconds is. record {
+      number = s.clock.number + 0;
+      told = subst (λ (o : Option ℕ). IsTold o seconds) (s.clock.moved 0) is;
+    };
+    moved = λ by. by;
+  }) s t
+
+  -- an ask of a shop without a clock, at a reading that is given
+  pub took_at : (seconds : ℕ) (p q : Parts D C) (ask : Asked) (r : Result Reply StoreFault) → ((c : C) (k : ℕ) → coming c k ≡ None) →
+      IsSound tells on_disk faults coming root p → Took tells on_disk faults (λ c k. Some seconds) root p q ask r →
+      Outcome tells on_disk faults coming (λ c k. Some seconds) root p ask r q
+  took_at seconds p q ask r none s t = took_by tells on_disk faults coming (λ c k. Some seconds) root p q ask r (record {
+    told = λ at is. subst (λ (o : Option ℕ). IsTold o at) (sym (none p.clock 0)) tt;
+    turn = λ at is. record { number = 0; told = is };
+    moved = λ by k. none q.clock k ∙ sym (none p.clock (1 + k));
+  }) s t

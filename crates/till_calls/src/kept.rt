@@ -1,5 +1,5 @@
 //! The value under a shop's lock.
-ghost use Rattle.std.specs.Prelude.{◌≡◌, length, None};
+ghost use Rattle.std.specs.Prelude.{◌≡◌, length, None, Some};
 ghost use Rattle.std.specs.Int.{IsInRange};
 ghost use Rattle.chain_store.specs.Store.{Ready, journal_of};
 ghost use Rattle.journal.specs.Journal.{stopped_of};
@@ -8,6 +8,7 @@ ghost use Rattle.till_calls.specs.Root.{items_in, parts_of, root_of};
 ghost use Rattle.till_calls.specs.Sound.{IsSound};
 ghost use Rattle.till_calls.specs.Turns.{LearnTurn, LookTurn, SeatTurn, TillTurn};
 
+use crate::clockless::Clockless;
 use crate::questions::Question;
 use crate::root::ShopRoot;
 use chain_disk::Disk;
@@ -104,6 +105,24 @@ impl<D: Disk, C: Clock> Kept<D, C> {
         ensures sound { IsSound D.tells D.on_disk D.faults C.coming self.root (parts_of result) }
     {
         self.store
+    }
+}
+
+impl<D: Disk> Kept<D, Clockless> {
+    // One ask of a till, at a reading that is given.
+    pub(crate) fn take_at(
+        &mut self,
+        alloc: Global,
+        ask: &Asking,
+        seconds: u64,
+    ) -> Result<Reply, StoreFault>
+        ensures root { self.new.root ≡ self.old.root }
+        ensures turn { TillTurn (λ c k. Some seconds) ask.now result self.old.root (items_in self.old.parts)
+            (items_in self.new.parts) }
+    {
+        let reply = self.store.take_at(alloc, ask, seconds);
+        self.store.state().is_legal();
+        reply
     }
 }
 

@@ -4,12 +4,14 @@
 //!
 //! An ask may wait for other tills' turns, and no order among those who wait is promised. It is answered at a history
 //! that goes on from all that its till has seen. A fault of the disk stops the shop: the call that meets it records the
-//! stop as the last item, and each later one is told of it.
+//! stop as the last item, and each later one is told of it. A shop without a clock of its own (`Clockless`) is asked at
+//! a reading that whoever asks gives (`ask_at`).
 //!
 //! A till may also look: its `Question` is answered at such a history too, which the till has then seen. Nothing is
 //! added, and a shop that has stopped still answers.
 //!
 //! - `client`: a till's requests, one after another
+//! - `clockless`: the clock of a shop that has none
 //! - `kept`: the value under a shop's lock
 //! - `laws`: what holds of runs alone
 //! - `questions`: questions on a shop's history
@@ -29,6 +31,7 @@
 #![tactic(auto)]
 
 mod client;
+mod clockless;
 mod kept;
 mod laws;
 mod questions;
@@ -39,6 +42,7 @@ mod tills;
 mod turns;
 
 pub use client::serve;
+pub use clockless::Clockless;
 pub use kept::Kept;
 pub use laws::{
     a_list_fits_what_was_known_before, a_run_is_told_at_the_end, a_till_adds_for_no_other,

@@ -10,10 +10,11 @@ ghost use Rattle.record_codec.specs.declared.entry.TheConstants.{LAST_TILL};
 ghost use Rattle.till_calls.specs.Root.{items_in, parts_of, root_of};
 ghost use Rattle.till_calls.specs.Sound.{IsSound};
 
+use crate::clockless::Clockless;
 use crate::kept::Kept;
 use crate::questions::Question;
 use crate::tills::{SenderSeat, Till, TillNumber, Tills};
-use crate::turns::{Learning, Taking};
+use crate::turns::{Learning, Taking, TakingAt};
 use chain_disk::Disk;
 use chain_lock::{ChainLock, Refused};
 use chain_store::Store;
@@ -210,6 +211,36 @@ impl<D: Disk, C: Clock> Shop<D, C> {
                 store: store_of(refused),
             }),
         }
+    }
+}
+
+impl<D: Disk> Shop<D, Clockless> {
+    ghost use Rattle.std.specs.Prelude.{Some};
+    ghost use Rattle.till_calls.specs.Shop.{Asks, shop_id, till_knows, till_number, till_shop};
+
+    /// The answer to a till's request as of `ask`, at a reading of the clock that whoever asks gives.
+    pub fn ask_at<R: Wait>(
+        &self,
+        rt: &R,
+        alloc: Global,
+        till: &mut Till<D, Clockless>,
+        serial: u32,
+        request: &Request,
+        seconds: u64,
+    ) -> Result<Reply, StoreFault>
+        requires own { till_shop till.old ≡ shop_id self.now }
+        requires serial { IsInRange 1 4_294_967_295 serial }
+        ensures same { (till_shop till.new ≡ till_shop till.old) × (till_number till.new ≡ till_number till.old) }
+        //= A till's ask of a shop without a clock is answered at exactly the reading that was given with it, else as any.
+        ensures asks { Asks (λ c k. Some seconds) (record { till = till_number till.old; serial = serial; request = request.now })
+            result (till_knows till.old) (till_knows till.new) }
+    {
+        let mut taking = TakingAt {
+            alloc,
+            ask: Asking::new(till.number(), serial, request),
+            seconds,
+        };
+        self.lock.turn(rt, &mut till.pass, &mut taking)
     }
 }
 

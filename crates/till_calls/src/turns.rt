@@ -3,6 +3,7 @@ ghost use Rattle.std.specs.Int.{IsInRange};
 ghost use Rattle.std.specs.Prelude.{length};
 ghost use Rattle.record_codec.specs.declared.entry.TheConstants.{MAX_NOTES};
 
+use crate::clockless::Clockless;
 use crate::kept::Kept;
 use crate::questions::Question;
 use chain_disk::Disk;
@@ -29,6 +30,28 @@ impl<D: Disk, C: Clock> Act<Kept<D, C>> for Taking<'_> {
 
     fn act(&mut self, value: &mut Kept<D, C>) -> Result<Reply, StoreFault> {
         value.take(self.alloc, &self.ask)
+    }
+}
+
+/// A till's ask at a reading that is given. It tells the reply.
+#[derive(Drop)]
+pub(crate) struct TakingAt<'a> {
+    pub(crate) alloc: Global,
+    pub(crate) ask: Asking<'a>,
+    pub(crate) seconds: u64,
+}
+
+impl<D: Disk> Act<Kept<D, Clockless>> for TakingAt<'_> {
+    type Told = Result<Reply, StoreFault>;
+
+    ghost use Rattle.std.specs.Prelude.{Some};
+    ghost use Rattle.till_calls.specs.Turns.{TillTurn};
+
+    ghost relates = { λ old root before new after told.
+        TillTurn (λ c k. Some old.seconds) old.ask told root before after };
+
+    fn act(&mut self, value: &mut Kept<D, Clockless>) -> Result<Reply, StoreFault> {
+        value.take_at(self.alloc, &self.ask, self.seconds)
     }
 }
 
