@@ -5,6 +5,7 @@ use Rattle.std.specs.List.{AllByRecursion, list_any}
 use Rattle.std.proofs.KnownBytes.{Appends-nil, Appends-trans}
 use Rattle.std.specs.Io.KnownBytes.{Appends}
 use Rattle.chain_lock.specs.Known.{Known}
+use Rattle.chain_store.specs.Readings.{readings}
 use Rattle.chain_store.specs.Replies.{AllGoOn, IsGoingOn, Replies, is_disk_fault, is_no_memory}
 use Rattle.dialogue.specs.OneLine.{form_of}
 use Rattle.dialogue.specs.Protocol.{Dialogue, Look as Looked, Reading, Transcript, clock_said, form_after, look_at, question, reply_text, says}
@@ -21,6 +22,7 @@ use Rattle.line_reader.specs.Lines.{is_over, kept_of}
 use Rattle.line_reader.specs.Lists.{AreAllLines, AreLines, InputLine}
 use Rattle.line_reader.specs.Read.{AreRead, HasRead}
 use Rattle.line_reader.specs.declared.reader.LineReader.{LineReader}
+use Rattle.ports.specs.Readings.{MovedBy}
 use Rattle.ports.specs.Sinks.{FailedIn, Wrote, WroteNothing, WrotePart}
 use Rattle.script.specs.declared.forms.Form.{Form}
 use Rattle.script.specs.declared.forms.Form.TheVariants.{First, Later}
@@ -33,6 +35,7 @@ use Rattle.till_calls.specs.Root.{Root}
 use Rattle.questions.specs.declared.questions.TillQuestion.{TillQuestion}
 use Rattle.dialogue_loop.specs.InARow.{AllRanOn, IsOfTill}
 use Rattle.dialogue_loop.specs.Looked.{AreLookedAt, LookedOn, RunsAt}
+use Rattle.dialogue_loop.proofs.Readings.{moved_on}
 use Rattle.dialogue_loop.proofs.InARow.{none_ran, shop_kept, size_kept}
 use Rattle.dialogue_loop.proofs.Looking.{looked_at_end, none_looked, none_ran_at, run_at_end}
 use Rattle.dialogue_loop.specs.Speech.{AreRepliesOf, AsksOne, ComesFirst, Goes, HasAnswered, HasHeard, HearsFirst, clock_first, HearsNone, IsFirst, clock_with, FailedAtLast, HasReadPast, HasReadTo, HearsLine, IsAnswered, IsCause, IsEarly, IsRead, IsReadFault}
@@ -142,21 +145,21 @@ tills_push [] ask h t = (t, tt)
 tills_push (a ∷ asks) ask h t = (h.0, tills_push asks ask h.1 t)
 
 -- the looks of a dialogue whose tills know this at its end
-module _ {C : Type 0} (coming : C → ℕ → Option ℕ) (olds news : List (Known Item (Root C))) (size : length olds ≡ 64) where
-  at_end : (asks : List Asked) (replies : Replies) (looks : List Looked) → AllRanOn coming asks replies olds news →
-      LookedOn coming olds asks replies looks news → AreLookedAt olds news replies looks
-  at_end asks replies looks ran looked = looked_at_end coming asks replies looks olds news
-      (size_kept coming asks replies olds news ran ∙ size) (shop_kept coming asks replies olds news ran) looked
+module _ {C : Type 0} (coming : ℕ → Option ℕ) (olds news : List (Known Item (Root C))) (size : length olds ≡ 64) where
+  at_end : (asks : List Asked) (replies : Replies) (looks : List Looked) → AllRanOn (λ c. coming) asks replies olds news →
+      LookedOn (λ c. coming) olds asks replies looks news → AreLookedAt olds news replies looks
+  at_end asks replies looks ran looked = looked_at_end (λ c. coming) asks replies looks olds news
+      (size_kept (λ c. coming) asks replies olds news ran ∙ size) (shop_kept (λ c. coming) asks replies olds news ran) looked
 
-  run_at : (asks : List Asked) (replies : Replies) (looks : List Looked) → AllRanOn coming asks replies olds news →
-      LookedOn coming olds asks replies looks news → RunsAt coming olds news asks replies looks
+  run_at : (asks : List Asked) (replies : Replies) (looks : List Looked) → AllRanOn (λ c. coming) asks replies olds news →
+      LookedOn (λ c. coming) olds asks replies looks news → RunsAt (λ c. coming) olds news asks replies looks
   run_at asks replies looks ran looked =
-      run_at_end coming asks replies looks olds news (size_kept coming asks replies olds news ran ∙ size) looked
+      run_at_end (λ c. coming) asks replies looks olds news (size_kept (λ c. coming) asks replies olds news ran ∙ size) looked
 
 -- A dialogue, one line further.
-module _ {C : Type 0} (coming : C → ℕ → Option ℕ) (clock : Option (ℕ × ℕ)) (from mid now : Moment) (old new : Listener)
-    (lacked lacked_now : Bool) (olds mids news : List (Known Item (Root C)))
-    (so_far : DialogueSoFar coming clock from mid old lacked olds mids) (size : length olds ≡ 64) where
+module _ {C : Type 0} (coming coming_mid coming_now : ℕ → Option ℕ) (clock : Option (ℕ × ℕ)) (from mid now : Moment)
+    (old new : Listener) (lacked lacked_now : Bool) (olds mids news : List (Known Item (Root C)))
+    (so_far : DialogueSoFar coming coming_mid clock from mid old lacked olds mids) (size : length olds ≡ 64) where
   abbrev said : Transcript
   said = so_far.said
 
@@ -175,10 +178,10 @@ module _ {C : Type 0} (coming : C → ℕ → Option ℕ) (clock : Option (ℕ �
     -- the line was heard, and this is its answer
     module _ (clock_now : Option (ℕ × ℕ)) (before : List Meaning) (asks : List Asked) (replies : Replies) (looks : List Looked)
         (more : List ℕ) (knows : SpeakerKnows new.speaker (next before asks replies looks more))
-        (clock_is : clock_said before ≡ clock_now) (ran : AllRanOn coming asks replies olds news) (looked : LookedOn coming olds asks replies looks news)
+        (clock_is : clock_said before ≡ clock_now) (ran : AllRanOn (λ c. coming) asks replies olds news) (looked : LookedOn (λ c. coming) olds asks replies looks news)
         (tills : AllByRecursion IsOfTill asks) (lacked_is : lacked_now ≡ list_any is_no_memory replies) where
-      goes_on : AllGoOn replies → Wrote (sink_since mid now) more → DialogueSoFar coming clock_now from now new lacked_now olds news
-      goes_on go w = record {
+      goes_on : AllGoOn replies → MovedBy (readings replies) coming coming_now → Wrote (sink_since mid now) more → DialogueSoFar coming coming_now clock_now from now new lacked_now olds news
+      goes_on go moved w = record {
         said = next before asks replies looks more;
         heard = record { read = line_read.read; so_far = knows };
         clock_is = clock_is;
@@ -186,6 +189,7 @@ module _ {C : Type 0} (coming : C → ℕ → Option ℕ) (clock : Option (ℕ �
         looked = looked;
         tills = tills;
         go_on = go;
+        moved = moved;
         lacked_is = lacked_is;
         wrote = both_wrote from mid now said.answers more so_far.wrote so_far.sink_later w;
         source_later = (let a = so_far.source_later in omega (arith, a, source_later));
@@ -229,14 +233,15 @@ module _ {C : Type 0} (coming : C → ℕ → Option ℕ) (clock : Option (ℕ �
     -- a line that asks the tills for nothing, or a question
     answered : (clock_now : Option (ℕ × ℕ)) (before : List Meaning) (looks : List Looked) (more : List ℕ) (end : Option SpeechEnd) →
         SpeakerKnows new.speaker (next before said.asks said.replies looks more) → clock_said before ≡ clock_now → lacked_now ≡ lacked →
-        AllRanOn coming said.asks said.replies olds news → LookedOn coming olds said.asks said.replies looks news → IsAnswered (sink_since mid now) more end →
-        Goes coming clock_now from now new lacked_now olds news end
-    answered clock_now before looks more end knows clock_is same ran looked a = by_end end a
+        AllRanOn (λ c. coming) said.asks said.replies olds news → LookedOn (λ c. coming) olds said.asks said.replies looks news →
+        coming_now ≡ coming_mid → IsAnswered (sink_since mid now) more end → Goes coming coming_now clock_now from now new lacked_now olds news end
+    answered clock_now before looks more end knows clock_is same ran looked still a = by_end end a
       where
-        by_end : (o : Option SpeechEnd) → IsAnswered (sink_since mid now) more o → Goes coming clock_now from now new lacked_now olds news o
+        by_end : (o : Option SpeechEnd) → IsAnswered (sink_since mid now) more o → Goes coming coming_now clock_now from now new lacked_now olds news o
         by_end None w = (
           goes_on clock_now before said.asks said.replies looks more knows clock_is ran looked so_far.tills
-              (same ∙ so_far.lacked_is) so_far.go_on w,
+              (same ∙ so_far.lacked_is) so_far.go_on
+              (subst (λ (c : ℕ → Option ℕ). MovedBy (readings said.replies) coming c) (sym still) so_far.moved) w,
           later,
         )
         by_end (Some how.WriteFault) w = ends clock_now before said.asks said.replies looks more knows clock_is ran looked so_far.tills
@@ -250,15 +255,15 @@ module _ {C : Type 0} (coming : C → ℕ → Option ℕ) (clock : Option (ℕ �
     -- a line that asks for no more than its answer
     written : (clock_now : Option (ℕ × ℕ)) (before : List Meaning) (more : List ℕ) (end : Option SpeechEnd) →
         SpeakerKnows new.speaker (next before said.asks said.replies said.looks more) → clock_said before ≡ clock_now →
-        lacked_now ≡ lacked → news ≡ mids → IsAnswered (sink_since mid now) more end →
-        Goes coming clock_now from now new lacked_now olds news end
-    written clock_now before more end knows clock_is same held a = answered clock_now before said.looks more end knows clock_is same
-        (subst (λ (ks : List (Known Item (Root C))). AllRanOn coming said.asks said.replies olds ks) (sym held) so_far.ran)
-        (subst (λ (ks : List (Known Item (Root C))). LookedOn coming olds said.asks said.replies said.looks ks) (sym held) so_far.looked) a
+        lacked_now ≡ lacked → news ≡ mids → coming_now ≡ coming_mid → IsAnswered (sink_since mid now) more end →
+        Goes coming coming_now clock_now from now new lacked_now olds news end
+    written clock_now before more end knows clock_is same held still a = answered clock_now before said.looks more end knows clock_is same
+        (subst (λ (ks : List (Known Item (Root C))). AllRanOn (λ c. coming) said.asks said.replies olds ks) (sym held) so_far.ran)
+        (subst (λ (ks : List (Known Item (Root C))). LookedOn (λ c. coming) olds said.asks said.replies said.looks ks) (sym held) so_far.looked) still a
 
     -- a command
     asked_for : (ask : Asked) (end : Option SpeechEnd) (on : AsksOn new.speaker said line_read.line ask) →
-        AsksOne coming ask (sink_since mid now) lacked lacked_now mids news end → Goes coming clock from now new lacked_now olds news end
+        AsksOne coming coming_mid coming_now ask (sink_since mid now) lacked lacked_now mids news end → Goes coming coming_now clock from now new lacked_now olds news end
     asked_for ask end on a = by_end end a.replied
       where
         told : Result Reply StoreFault
@@ -273,11 +278,11 @@ module _ {C : Type 0} (coming : C → ℕ → Option ℕ) (clock : Option (ℕ �
         replies : Replies
         replies = said.replies ++ told ∷ []
 
-        ran : AllRanOn coming asks replies olds news
-        ran = a.asks_on said.asks said.replies olds so_far.heard.so_far.pairs size so_far.ran
+        ran : AllRanOn (λ c. coming) asks replies olds news
+        ran = a.asks_on said.asks said.replies olds so_far.heard.so_far.pairs size so_far.moved so_far.ran
 
-        looked : LookedOn coming olds asks replies said.looks news
-        looked = a.looked olds said.asks said.replies said.looks so_far.heard.so_far.pairs so_far.looked
+        looked : LookedOn (λ c. coming) olds asks replies said.looks news
+        looked = a.looked olds said.asks said.replies said.looks so_far.heard.so_far.pairs so_far.moved so_far.looked
 
         tills : AllByRecursion IsOfTill asks
         tills = tills_push said.asks ask so_far.tills a.of_till
@@ -308,10 +313,11 @@ module _ {C : Type 0} (coming : C → ℕ → Option ℕ) (clock : Option (ℕ �
             IsWritten how (sink_since from now) (said.answers ++ more ∷ [])
         taken = written_on from mid now said.answers more so_far.wrote so_far.sink_later
 
-        by_end : (o : Option SpeechEnd) → IsReplied told (sink_since mid now) more o → Goes coming clock from now new lacked_now olds news o
+        by_end : (o : Option SpeechEnd) → IsReplied told (sink_since mid now) more o → Goes coming coming_now clock from now new lacked_now olds news o
         by_end None w = (
           goes_on clock said.before asks replies said.looks more (on.so_far told) so_far.clock_is ran looked tills lacked_is
-              (go_on_push said.replies told so_far.go_on w.0) w.1,
+              (go_on_push said.replies told so_far.go_on w.0)
+              (moved_on coming coming_mid coming_now said.replies told w.0 so_far.moved a.moved) w.1,
           later,
         )
         by_end (Some how.WriteFault) w =
@@ -325,8 +331,8 @@ module _ {C : Type 0} (coming : C → ℕ → Option ℕ) (clock : Option (ℕ �
         by_end (Some how.ReadFault) w = absurd w
 
     -- a question for whose answer there was no memory
-    unanswered : lacked_now ≡ lacked → AllRanOn coming said.asks said.replies olds news →
-        LookedOn coming olds said.asks said.replies said.looks news →
+    unanswered : lacked_now ≡ lacked → AllRanOn (λ c. coming) said.asks said.replies olds news →
+        LookedOn (λ c. coming) olds said.asks said.replies said.looks news →
         WroteNothing (sink_since mid now) → Spoken coming clock from now lacked_now olds news how.NoMemory
     unanswered same ran looked nothing = record {
       said = said;
@@ -350,29 +356,30 @@ module _ {C : Type 0} (coming : C → ℕ → Option ℕ) (clock : Option (ℕ �
     looked_for : (asked : TillQuestion) (end : Option SpeechEnd) (on : LooksOn new.speaker said line_read.line asked) → lacked_now ≡ lacked →
         KeepsRuns coming mids news →
         AnswersOne coming asked (sink_since mid now) mids news end ⊎ AnswersNone coming (sink_since mid now) mids news end →
-        Goes coming clock from now new lacked_now olds news end
-    looked_for asked end on same keeps (inl a) =
+        coming_now ≡ coming_mid →
+        Goes coming coming_now clock from now new lacked_now olds news end
+    looked_for asked end on same keeps (inl a) still =
         answered clock said.before (said.looks ++ look_at said a.history ∷ []) a.text end (on.so_far a.history a.text a.is) so_far.clock_is
-        same (keeps said.asks said.replies olds so_far.ran) (a.looked olds said.asks said.replies said.looks so_far.looked) a.written
-    looked_for asked end on same keeps (inr a) = subst (λ (o : Option SpeechEnd). Goes coming clock from now new lacked_now olds news o)
+        same (keeps said.asks said.replies olds so_far.ran) (a.looked olds said.asks said.replies said.looks so_far.looked) still a.written
+    looked_for asked end on same keeps (inr a) still = subst (λ (o : Option SpeechEnd). Goes coming coming_now clock from now new lacked_now olds news o)
         (sym a.how) (unanswered same (keeps said.asks said.replies olds so_far.ran) (a.looked olds said.asks said.replies said.looks so_far.looked) a.nothing)
 
   -- what a line asked for was done
   pub carried_out_so : (action : Action) (end : Option SpeechEnd) → mid.source_faults ≤ now.source_faults →
       mid.sink_faults ≤ now.sink_faults → HearsLine from.left now.left old new said action →
-      form_of new.speaker ≡ Later → CarriesOut coming action (sink_since mid now) lacked lacked_now mids news end →
-      Goes coming (clock_with action clock) from now new lacked_now olds news end
+      form_of new.speaker ≡ Later → CarriesOut coming coming_mid coming_now action (sink_since mid now) lacked lacked_now mids news end →
+      Goes coming coming_now (clock_with action clock) from now new lacked_now olds news end
   carried_out_so (Write text) end a b line_read later o = written (Write text) a b line_read later clock (said.before ++ line_read.on.left) text
-      end line_read.on.so_far (line_read.on.clock ∙ so_far.clock_is) o.0 o.1 o.2
+      end line_read.on.so_far (line_read.on.clock ∙ so_far.clock_is) o.0 o.1 o.3 o.2
   carried_out_so (Clock start step text) end a b line_read later o = written (Clock start step text) a b line_read later
-      (Some (start, step)) (said.before ++ line.Clock start step ∷ []) text end line_read.on.so_far line_read.on.clock o.0 o.1 o.2
+      (Some (start, step)) (said.before ++ line.Clock start step ∷ []) text end line_read.on.so_far line_read.on.clock o.0 o.1 o.3 o.2
   carried_out_so (Ask ask) end a b line_read later o = asked_for (Ask ask) a b line_read later ask end line_read.on o
-  carried_out_so (Look asked) end a b line_read later o = looked_for (Look asked) a b line_read later asked end line_read.on o.0 o.1 o.2
+  carried_out_so (Look asked) end a b line_read later o = looked_for (Look asked) a b line_read later asked end line_read.on o.0 o.1 o.2 o.3
 
   -- after a line that was answered no clock line comes
   pub carried_out : (action : Action) (end : Option SpeechEnd) → mid.source_faults ≤ now.source_faults →
       mid.sink_faults ≤ now.sink_faults → form_of old.speaker ≡ Later → HearsLine from.left now.left old new said action →
-      CarriesOut coming action (sink_since mid now) lacked lacked_now mids news end → Goes coming clock from now new lacked_now olds news end
+      CarriesOut coming coming_mid coming_now action (sink_since mid now) lacked lacked_now mids news end → Goes coming coming_now clock from now new lacked_now olds news end
   carried_out (Write text) end a b later line_read o = carried_out_so (Write text) end a b line_read (line_read.on.later later) o
   carried_out (Clock start step text) end a b later line_read o =
       absurd (line_read.on.ahead later)
@@ -380,12 +387,12 @@ module _ {C : Type 0} (coming : C → ℕ → Option ℕ) (clock : Option (ℕ �
   carried_out (Look asked) end a b later line_read o = carried_out_so (Look asked) end a b line_read line_read.on.later o
 
 -- the dialogue ended ahead of any answer to the next line
-pub ended_early : {C : Type 0} (coming : C → ℕ → Option ℕ) (clock : Option (ℕ × ℕ)) (from mid : Moment) (left : Option (List ℕ))
+pub ended_early : {C : Type 0} (coming coming_now : ℕ → Option ℕ) (clock : Option (ℕ × ℕ)) (from mid : Moment) (left : Option (List ℕ))
     (faults : ℕ) (old : Listener) (lacked : Bool) (olds mids : List (Known Item (Root C)))
-    (so_far : DialogueSoFar coming clock from mid old lacked olds mids) (end : SpeechEnd) → length olds ≡ 64 → IsEarly end →
+    (so_far : DialogueSoFar coming coming_now clock from mid old lacked olds mids) (end : SpeechEnd) → length olds ≡ 64 → IsEarly end →
     IsRead end from.left left so_far.said.lines → IsReadFault end mid (record mid { left = left; source_faults = faults }) →
     Spoken coming clock from (record mid { left = left; source_faults = faults }) lacked olds mids end
-ended_early {C} coming clock from mid left faults old lacked olds mids so_far end size early read fault = record {
+ended_early {C} coming coming_now clock from mid left faults old lacked olds mids so_far end size early read fault = record {
   said = so_far.said;
   dialogue = so_far.heard.so_far.dialogue;
   pairs = so_far.heard.so_far.pairs;
@@ -525,21 +532,22 @@ came_none left mid now old end p h = record {
 }
 
 -- what the first line asks for was done
-pub first_obeyed : {C : Type 0} (coming : C → ℕ → Option ℕ) (from now : Moment) (new : Listener) (lacked_now : Bool)
+pub first_obeyed : {C : Type 0} (coming coming_now : ℕ → Option ℕ) (from now : Moment) (new : Listener) (lacked_now : Bool)
     (olds news : List (Known Item (Root C))) (action : Action) (end : Option SpeechEnd) → length olds ≡ 64 →
     HearsFirst from.left now.left new action → from.source_faults ≤ now.source_faults → from.sink_faults ≤ now.sink_faults →
-    CarriesOut coming action (sink_since from now) false lacked_now olds news end →
-    Goes coming (clock_with action None) from now new lacked_now olds news end
-first_obeyed {C} coming from now new lacked_now olds news action end size first a b o =
-    carried_out_so coming None from (record from { left = first.mid_left }) now first.mid new false lacked_now olds olds news
+    CarriesOut coming coming coming_now action (sink_since from now) false lacked_now olds news end →
+    Goes coming coming_now (clock_with action None) from now new lacked_now olds news end
+first_obeyed {C} coming coming_now from now new lacked_now olds news action end size first a b o =
+    carried_out_so coming coming coming_now None from (record from { left = first.mid_left }) now first.mid new false lacked_now olds olds news
     (record {
       said = passed first.lines first.before first.answers;
       heard = first.heard;
       clock_is = first.clock_none;
-      ran = none_ran coming olds;
-      looked = none_looked coming olds;
+      ran = none_ran (λ c. coming) olds;
+      looked = none_looked (λ c. coming) olds;
       tills = tt;
       go_on = tt;
+      moved = λ k. ap coming (let e : k ≡ 0 + k = omega arith in e);
       lacked_is = refl;
       wrote = subst (λ (t : List ℕ). Appends from.taken from.taken t) (sym first.none) (Appends-nil from.taken);
       source_later = omega arith;
@@ -548,7 +556,7 @@ first_obeyed {C} coming from now new lacked_now olds news action end size first 
     size action end a b first.line_read first.later o
 
 -- no line was answered
-pub none_spoken : {C : Type 0} (coming : C → ℕ → Option ℕ) (from now : Moment) (olds : List (Known Item (Root C)))
+pub none_spoken : {C : Type 0} (coming : ℕ → Option ℕ) (from now : Moment) (olds : List (Known Item (Root C)))
     (end : SpeechEnd) → HearsNone from.left now.left end → now.taken ≡ from.taken →
     from.sink_faults ≤ now.sink_faults → IsReadFault end from now → Spoken coming None from now false olds olds end
 none_spoken {C} coming from now olds end h same later fault = record {
@@ -556,9 +564,9 @@ none_spoken {C} coming from now olds end h same later fault = record {
   dialogue = h.dialogue;
   pairs = refl;
   clock_is = h.clock_none;
-  ran = none_ran coming olds;
+  ran = none_ran (λ c. coming) olds;
   looked = λ root log of_shop fit begins. record { rise = begins; told = tt };
-  run = none_ran_at coming olds olds;
+  run = none_ran_at (λ c. coming) olds olds;
   tills = tt;
   lacked_is = refl;
   read = h.read;
@@ -587,7 +595,7 @@ none_spoken {C} coming from now olds end h same later fault = record {
     are how.Stopped e = absurd e
 
 -- the dialogue, by what came first
-module _ {C : Type 0} (coming : C → ℕ → Option ℕ) (from now : Moment) (new : Listener) (olds news : List (Known Item (Root C))) where
+module _ {C : Type 0} (coming coming_now : ℕ → Option ℕ) (from now : Moment) (new : Listener) (olds news : List (Known Item (Root C))) where
   pub ended_first : (lacked : Bool) (first : Result Action SpeechEnd) (end : SpeechEnd) → first ≡ Err end → lacked ≡ false →
       ComesFirst from.left now.left new first → now.taken ≡ from.taken → from.sink_faults ≤ now.sink_faults →
       IsCause from.source_faults now.source_faults first →
@@ -609,12 +617,12 @@ module _ {C : Type 0} (coming : C → ℕ → Option ℕ) (from now : Moment) (n
   pub began_first : (lacked lacked_now : Bool) (first : Result Action SpeechEnd) (action : Action) (end : Option SpeechEnd) →
       first ≡ Ok action → lacked ≡ false → length olds ≡ 64 → ComesFirst from.left now.left new first →
       from.source_faults ≤ now.source_faults → from.sink_faults ≤ now.sink_faults →
-      CarriesOut coming action (sink_since from now) lacked lacked_now olds news end →
-      Goes coming (clock_first first) from now new lacked_now olds news end
+      CarriesOut coming coming coming_now action (sink_since from now) lacked lacked_now olds news end →
+      Goes coming coming_now (clock_first first) from now new lacked_now olds news end
   began_first lacked lacked_now (Err e) action end is none size h a b o = absurd cc
   began_first lacked lacked_now (Ok t) action end is none size h a b o =
       let one : t ≡ action = (let x = is in cc) in
-      let o' : CarriesOut coming t (sink_since from now) false lacked_now olds news end =
-      subst (λ (x : Action). CarriesOut coming x (sink_since from now) false lacked_now olds news end) (sym one)
-      (subst (λ (l : Bool). CarriesOut coming action (sink_since from now) l lacked_now olds news end) none o) in
-      first_obeyed coming from now new lacked_now olds news t end size h a b o'
+      let o' : CarriesOut coming coming coming_now t (sink_since from now) false lacked_now olds news end =
+      subst (λ (x : Action). CarriesOut coming coming coming_now x (sink_since from now) false lacked_now olds news end) (sym one)
+      (subst (λ (l : Bool). CarriesOut coming coming coming_now action (sink_since from now) l lacked_now olds news end) none o) in
+      first_obeyed coming coming_now from now new lacked_now olds news t end size h a b o'

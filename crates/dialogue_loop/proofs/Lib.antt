@@ -4,3 +4,4 @@ mod Bytewise
 pub mod OneRun
 mod Looking
 mod Dialogues
+mod Readings

@@ -12,6 +12,7 @@ use Rattle.std.specs.Prelude.{option_map}
 use Rattle.std.specs.Option.{option_map_or}
 use Rattle.chain_lock.specs.Known.{Fits, IsNew, Known}
 use Rattle.chain_lock.specs.Lists.{StartsWith}
+use Rattle.chain_store.specs.Readings.{readings}
 use Rattle.chain_store.specs.Replies.{Replies}
 use Rattle.dialogue.specs.Protocol.{Look}
 use Rattle.journal.specs.declared.faults.StoreFault.{StoreFault}
@@ -33,6 +34,7 @@ use Rattle.shop_core.specs.declared.answer.receipts.Receipt.{Receipt}
 use Rattle.shop_core.specs.declared.items.Item.{Item}
 use Rattle.shop_core.specs.declared.items.Item.TheVariants as item
 use Rattle.till_calls.specs.Root.{Root}
+use Rattle.ports.specs.Readings.{IsTold}
 use Rattle.ports.specs.declared.faults.NoMemory.{NoMemory as NoRoom}
 use Rattle.questions.specs.Answers.{IsAnswer}
 use Rattle.questions.specs.declared.questions.TillQuestion.{TillQuestion}
@@ -403,28 +405,29 @@ reply_within entries gained (planned.Made (Rec till serial sealed)) told w h =
     let f = length-append (recs entries) (sealed ∷ []) in omega (arith, e, f))
 reply_within entries gained (planned.Made (Notes first lines)) told w h = absurd h.0
 
-module _ {C : Type 0} (coming : C → ℕ → Option ℕ) (ask : Asked) where
+-- one ask, at this reading
+module _ {C : Type 0} (coming : ℕ → Option ℕ) (seconds : ℕ) (ask : Asked) where
   -- Where a turn stands in a list: behind all that this many items have, and before all that is known then.
   record TurnStands (told : Result Reply StoreFault) (root : Root C) (log : List Item) (replies : Replies) (known then : ℕ) : Type 0
     where
       up : records_in known log + cond (is_taken told) 1 0 ≤ then
-      answers : (reply : Reply) → told ≡ Ok reply → AnswersAmong root.version root.issuer (coming root.clock) root.history
+      answers : (reply : Reply) → told ≡ Ok reply → AnswersAmong root.version root.issuer coming root.history
           (entries_of log) replies [] then ask reply
 
   turn_stands : (told : Result Reply StoreFault) (old new : Known Item (Root C)) (root : Root C) (log : List Item) (replies : Replies)
-      (known then : ℕ) → Asks coming ask told old new → old.root ≡ Some root → StartsWith log new.seen → StartsWith log (items_at root) →
+      (known then : ℕ) → IsTold (coming (readings replies)) seconds → Asks (λ c k. Some seconds) ask told old new → old.root ≡ Some root → StartsWith log new.seen → StartsWith log (items_at root) →
       length root.history ≤ known → known ≤ old.least → length (recs root.history) + taken_in replies ≤ records_in known log →
       records_in new.least log ≤ then → TurnStands told root log replies known then
-  turn_stands (Err e) old new root log replies known then t is starts begins base low all high = record {
+  turn_stands (Err e) old new root log replies known then read t is starts begins base low all high = record {
     up = (let a : new.least ≡ length (t.before ++ t.added) = ap (λ (k : Known Item (Root C)). k.least) t.after in
         let b = length-append t.before t.added in let c = t.at_least in
         let more = records_more known new.least log (omega (arith, a, b, c, low)) in omega (arith, more, high));
     answers = λ reply is. absurd (let x = is in cc);
   }
-  turn_stands (Ok told) old new root log replies known then t is starts begins base low all high =
+  turn_stands (Ok told) old new root log replies known then read t is starts begins base low all high =
       let home : t.home ≡ root = (let x = sym t.root ∙ is in cc) in
-      let does : TillDoes coming ask (Ok told) root t.before (t.before ++ t.added) =
-      subst (λ (r : Root C). TillDoes coming ask (Ok told) r t.before (t.before ++ t.added)) home t.related.does in
+      let does : TillDoes (λ c k. Some seconds) ask (Ok told) root t.before (t.before ++ t.added) =
+      subst (λ (r : Root C). TillDoes (λ c k. Some seconds) ask (Ok told) r t.before (t.before ++ t.added)) home t.related.does in
       let history : List Entry = does.history in
       let after : List Entry = history ++ does.gained in
       let saw : new.seen ≡ t.before ++ t.added = ap (λ (k : Known Item (Root C)). k.seen) t.after in
@@ -454,7 +457,7 @@ module _ {C : Type 0} (coming : C → ℕ → Option ℕ) (ask : Asked) where
         up = omega (arith, more, count, gains, count_after, high);
         answers = λ reply is.
             let same : told ≡ reply = (let x = is in cc) in
-            subst (λ (r : Reply). AnswersAmong root.version root.issuer (coming root.clock) root.history (entries_of log) replies []
+            subst (λ (r : Reply). AnswersAmong root.version root.issuer coming root.history (entries_of log) replies []
             then ask r) same (record {
               history = history;
               gained = does.gained;
@@ -465,13 +468,13 @@ module _ {C : Type 0} (coming : C → ℕ → Option ℕ) (ask : Asked) where
                 no_more = omega (arith, count_after, high);
               };
               seconds = does.seconds;
-              reading = (does.reading.number, does.reading.told);
+              reading = subst (λ (s : ℕ). IsTold (coming (readings replies)) s) (sym does.reading.told) read;
               tells = does.tells;
             });
       }
 
   -- what a till that asked knows more of
-  pub more_asked : (told : Result Reply StoreFault) (old new : Known Item (Root C)) → Asks coming ask told old new → KnowsMore old new
+  pub more_asked : (told : Result Reply StoreFault) (old new : Known Item (Root C)) → Asks (λ c k. Some seconds) ask told old new → KnowsMore old new
   more_asked told old new t = record {
     root = ap (λ (k : Known Item (Root C)). k.root) t.after;
     begins = (let e : new.seen ≡ t.before ++ t.added = ap (λ (k : Known Item (Root C)). k.seen) t.after in
@@ -490,7 +493,7 @@ module _ {C : Type 0} (coming : C → ℕ → Option ℕ) (ask : Asked) where
   }
 
   -- a record that the reply tells stands within as many items as the till then knows of
-  pub asked_within : (told : Result Reply StoreFault) (old new : Known Item (Root C)) (log : List Item) → Asks coming ask told old new →
+  pub asked_within : (told : Result Reply StoreFault) (old new : Known Item (Root C)) (log : List Item) → Asks (λ c k. Some seconds) ask told old new →
       Fits log new → IsWithin (records_in new.least log) told
   asked_within (Err e) old new log t f = tt
   asked_within (Ok told) old new log t f =
@@ -510,11 +513,12 @@ module _ {C : Type 0} (coming : C → ℕ → Option ℕ) (ask : Asked) where
   pub looked_asked : ((log : List Item) (old new : Known Item (Root C)) → SeesOn old new → Fits log new → Fits log old) →
       (from : List (Known Item (Root C))) (asks : List Asked) (replies : Replies) (looks : List Look) (told : Result Reply StoreFault)
       (olds news : List (Known Item (Root C))) (place : ℕ) (old new : Known Item (Root C)) → length replies ≡ length asks →
+      IsTold (coming (readings replies)) seconds →
       length olds ≡ 64 → slice_get olds place ≡ Some old →
-      ((first : Known Item (Root C)) → slice_get olds 63 ≡ Some first → first.least ≤ old.least) → Asks coming ask told old new →
-      Informed (set olds place new) place 63 news → LookedOn coming from asks replies looks olds →
-      LookedOn coming from (asks ++ ask ∷ []) (replies ++ told ∷ []) looks news
-  looked_asked law from asks replies looks told olds news place old new even size at as_many t informed h = λ first is.
+      ((first : Known Item (Root C)) → slice_get olds 63 ≡ Some first → first.least ≤ old.least) → Asks (λ c k. Some seconds) ask told old new →
+      Informed (set olds place new) place 63 news → LookedOn (λ c. coming) from asks replies looks olds →
+      LookedOn (λ c. coming) from (asks ++ ask ∷ []) (replies ++ told ∷ []) looks news
+  looked_asked law from asks replies looks told olds news place old new even read size at as_many t informed h = λ first is.
       let k = kept first is in
       record {
         rise = k.rise;
@@ -538,8 +542,8 @@ module _ {C : Type 0} (coming : C → ℕ → Option ℕ) (ask : Asked) where
       more : AllMore olds news
       more = all_trans olds asked news asking informing
 
-      kept : LookedOn coming from asks replies looks news
-      kept = looked_kept coming from asks replies looks olds news more h
+      kept : LookedOn (λ c. coming) from asks replies looks news
+      kept = looked_kept (λ c. coming) from asks replies looks olds news more h
 
       new_at : slice_get asked place ≡ Some new
       new_at = slice_set_same olds place new (slice_get_within olds place old at)
@@ -561,18 +565,18 @@ module _ {C : Type 0} (coming : C → ℕ → Option ℕ) (ask : Asked) where
 
       ran : (k : Known Item (Root C)) (root : Root C) (log : List Item) → slice_get news 63 ≡ Some k →
           AllByRecursion (IsNew (items_at root) root) from → AllByRecursion (Fits log) news → StartsWith log (items_at root) →
-          RunKnown coming (asks ++ ask ∷ []) (replies ++ told ∷ []) looks news k root log
+          RunKnown (λ c. coming) (asks ++ ask ∷ []) (replies ++ told ∷ []) looks news k root log
       ran k root log is fresh fit begins =
           let was = before_of olds news 63 k more is in
           let first : Known Item (Root C) = was.old in
           let then = (h first was.at).run root log fresh (all_fit olds news log more fit) begins in
-          let turn = turn_stands told old new root log replies first.least (records_in k.least log) t
+          let turn = turn_stands told old new root log replies first.least (records_in k.least log) read t
           (one_of (λ (j : Known Item (Root C)). j.root ≡ Some root) olds place old at then.roots) (new_fits log fit).begins begins
           then.least (as_many first was.at) then.runs.all (records_more new.least k.least log (knows k is)) in
           record {
             roots = roots_more olds news root more then.roots;
             least = (let a = then.least in let b = was.more.at_least in omega (arith, a, b));
-            runs = runs_asked root.version root.issuer (coming root.clock) root.history (entries_of log) asks replies looks
+            runs = runs_asked root.version root.issuer coming root.history (entries_of log) asks replies looks
                 (records_in first.least log) (records_in k.least log) ask told even turn.up turn.answers then.runs;
           }
 

@@ -3,10 +3,10 @@ use Rattle.std.specs.Prelude.{◌≡◌, ◌≤◌, ℕ, ◌+◌, Bool, true, fa
 use Rattle.std.specs.Prelude.{Option, Some, Result, Ok, Err}
 use Rattle.std.specs.List.{AllByRecursion}
 use Rattle.chain_lock.specs.Lists.{StartsWith}
+use Rattle.chain_store.specs.Readings.{IsComing}
 use Rattle.chain_store.specs.Replies.{Replies}
 use Rattle.dialogue.specs.Protocol.{Look}
 use Rattle.journal.specs.declared.faults.StoreFault.{StoreFault}
-use Rattle.ports.specs.Readings.{IsTold}
 use Rattle.record_codec.specs.declared.entry.Entry.{Entry}
 use Rattle.record_fields.specs.declared.versions.Version.{Version}
 use Rattle.shop_core.specs.Answer.Plans.{answer}
@@ -35,7 +35,8 @@ pub record IsAfter (start end : List Entry) (before : Replies) (history : List E
   pub ends : StartsWith end history
   pub records : recs history ≡ take (length (recs start) + taken_in before) (recs end)
 
--- The reply is the answer at such a history and at a coming reading of the clock, and a record that was taken is the next entry there.
+-- The reply is the answer at such a history and at the clock's next reading after those for the replies before it, and a record that
+-- was taken is the next entry there.
 pub record AnswersAfter (version : Version) (issuer : List ℕ) (coming : ℕ → Option ℕ) (start end : List Entry) (before : Replies)
     (ask : Asked) (reply : Reply) : Type 0 where
   pub history : List Entry
@@ -43,7 +44,8 @@ pub record AnswersAfter (version : Version) (issuer : List ℕ) (coming : ℕ �
   pub gained : List Entry
   pub next : StartsWith end (history ++ gained)
   pub seconds : ℕ
-  pub reading : (number : ℕ) × IsTold (coming number) seconds
+  --= Each command of `serve` is answered at the clock's coming answer of its number, as each command of a script is.
+  pub reading : IsComing coming before seconds
   pub tells : Tells history (answer version issuer history ask seconds) reply gained
 
 -- The asks are one run: each reply that is no fault of the store is the answer after the replies before it, each question was
@@ -70,7 +72,7 @@ pub record AnswersAmong (version : Version) (issuer : List ℕ) (coming : ℕ �
   pub gained : List Entry
   pub stands : StandsAmong start end before since top history gained
   pub seconds : ℕ
-  pub reading : (number : ℕ) × IsTold (coming number) seconds
+  pub reading : IsComing coming before seconds
   pub tells : Tells history (answer version issuer history ask seconds) reply gained
 
 -- a look at such a history

@@ -3,6 +3,7 @@ use Rattle.std.specs.Prelude.{◌≡◌, ◌⊎◌, ◌<◌, ◌≤◌, ℕ, Lis
 use Rattle.std.specs.List.{AllByRecursion, list_any}
 use Rattle.std.specs.Io.KnownBytes.{Appends, Consumes}
 use Rattle.chain_lock.specs.Known.{Known}
+use Rattle.chain_store.specs.Readings.{readings}
 use Rattle.chain_store.specs.Replies.{AllGoOn, IsGoingOn, Replies, is_disk_fault, is_no_memory}
 use Rattle.dialogue.specs.OneLine.{form_of}
 use Rattle.dialogue.specs.Protocol.{Dialogue, Look as Looked, Transcript, clock_said, reply_text, written_for}
@@ -14,6 +15,7 @@ use Rattle.line_reader.specs.Lists.{AreAllLines, AreLines, InputLine}
 use Rattle.line_reader.specs.Read.{HasRead, HasReadAll, StopsBehind}
 use Rattle.line_reader.specs.declared.chunk.TheConstants.{CHUNK}
 use Rattle.ports.specs.Causes.{Rose, RoseByOne}
+use Rattle.ports.specs.Readings.{MovedBy}
 use Rattle.ports.specs.Sinks.{FailedIn, Sinks, Wrote, WroteNothing}
 use Rattle.script.specs.declared.forms.Form.TheVariants.{First, Later}
 use Rattle.script.specs.declared.lines.Meaning.{Meaning}
@@ -228,23 +230,25 @@ IsReadFault how.ReadFault from now = Rose from.source_faults now.source_faults
 IsReadFault _ from now = Unit {0}
 
 -- How far a dialogue is: the lines that were read and all that was said and written for them, by this clock line; each till ran its
--- own of the commands, and no fault of the disk was told.
-pub record DialogueSoFar {C : Type 0} (coming : C → ℕ → Option ℕ) (clock : Option (ℕ × ℕ)) (from now : Moment) (l : Listener)
+-- own of the commands, and no fault of the disk was told. The clock, whose coming answers these were and are now, was read once for
+-- each reply.
+pub record DialogueSoFar {C : Type 0} (coming coming_now : ℕ → Option ℕ) (clock : Option (ℕ × ℕ)) (from now : Moment) (l : Listener)
     (lacked : Bool) (olds news : List (Known Item (Root C))) : Type 0 where
   pub said : Transcript
   pub heard : HasHeard from.left now.left l said
   pub clock_is : clock_said said.before ≡ clock
-  pub ran : AllRanOn coming said.asks said.replies olds news
-  pub looked : LookedOn coming olds said.asks said.replies said.looks news
+  pub ran : AllRanOn (λ c. coming) said.asks said.replies olds news
+  pub looked : LookedOn (λ c. coming) olds said.asks said.replies said.looks news
   pub tills : AllByRecursion IsOfTill said.asks
   pub go_on : AllGoOn said.replies
+  pub moved : MovedBy (readings said.replies) coming coming_now
   pub lacked_is : lacked ≡ list_any is_no_memory said.replies
   pub wrote : Wrote (sink_since from now) (written_for said.answers)
   pub source_later : from.source_faults ≤ now.source_faults
   pub sink_later : from.sink_faults ≤ now.sink_faults
 
 -- A dialogue that ended so.
-pub record Spoken {C : Type 0} (coming : C → ℕ → Option ℕ) (clock : Option (ℕ × ℕ)) (from now : Moment)
+pub record Spoken {C : Type 0} (coming : ℕ → Option ℕ) (clock : Option (ℕ × ℕ)) (from now : Moment)
     (lacked : Bool) (olds news : List (Known Item (Root C))) (end : SpeechEnd) : Type 0 where
   pub said : Transcript
   --= The lines that were read are a dialogue: each is answered by its definition, given those before it, in one text;
@@ -253,13 +257,13 @@ pub record Spoken {C : Type 0} (coming : C → ℕ → Option ℕ) (clock : Opti
   pub pairs : length said.replies ≡ length said.asks
   pub clock_is : clock_said said.before ≡ clock
   --= Each till has run its own of the commands, in their order, from what it knew, and has only seen on since.
-  pub ran : AllRanOn coming said.asks said.replies olds news
+  pub ran : AllRanOn (λ c. coming) said.asks said.replies olds news
   --= Questions are answered at histories of which each begins with the one before; each record that was told by a
   --= receipt before a question is in its history.
   pub looked : AreLookedAt olds news said.replies said.looks
   --= Commands are answered at histories with no fewer records than those at the start and those taken before, by
   --= whichever till; where the records at the end are no others than these, all commands are one run.
-  pub run : RunsAt coming olds news said.asks said.replies said.looks
+  pub run : RunsAt (λ c. coming) olds news said.asks said.replies said.looks
   pub tills : AllByRecursion IsOfTill said.asks
   pub lacked_is : lacked ≡ list_any is_no_memory said.replies
   --= The source is read to its end, or up to a fault of it; else up to the last line that was answered, with what
@@ -283,10 +287,10 @@ abbrev pub HasAnswered : Listener → Type 0
 HasAnswered l = form_of l.speaker ≡ Later
 
 -- the dialogue goes on, after a line that was answered, or ended so
-abbrev pub Goes : {C : Type 0} → (C → ℕ → Option ℕ) → Option (ℕ × ℕ) → Moment → Moment → Listener → Bool →
+abbrev pub Goes : {C : Type 0} → (coming coming_now : ℕ → Option ℕ) → Option (ℕ × ℕ) → Moment → Moment → Listener → Bool →
     List (Known Item (Root C)) → List (Known Item (Root C)) → Option SpeechEnd → Type 0
-Goes coming clock from now l lacked olds news None = DialogueSoFar coming clock from now l lacked olds news × HasAnswered l
-Goes coming clock from now l lacked olds news (Some end) = Spoken coming clock from now lacked olds news end
+Goes coming coming_now clock from now l lacked olds news None = DialogueSoFar coming coming_now clock from now l lacked olds news × HasAnswered l
+Goes coming coming_now clock from now l lacked olds news (Some end) = Spoken coming clock from now lacked olds news end
 
 -- an answer that was written or not
 abbrev pub IsAnswered : Sinks → List ℕ → Option SpeechEnd → Type 0
@@ -302,50 +306,54 @@ IsReplied replied s text (Some how.NoMemory) = WroteNothing s
 IsReplied replied s text (Some how.Stopped) = (is_disk_fault replied ≡ true) × (Wrote s text ⊎ FailedIn s text)
 IsReplied replied s text (Some other) = ⊥
 
--- a command was asked for, and answered
-pub record AsksOne {C : Type 0} (coming : C → ℕ → Option ℕ) (ask : Asked) (s : Sinks) (old_lacked new_lacked : Bool)
+-- a command was asked for, and answered, at the next reading of the clock
+pub record AsksOne {C : Type 0} (coming coming_old coming_new : ℕ → Option ℕ) (ask : Asked) (s : Sinks) (old_lacked new_lacked : Bool)
     (mids news : List (Known Item (Root C))) (end : Option SpeechEnd) : Type 0 where
   pub told : Result Reply StoreFault
+  pub moved : MovedBy 1 coming_old coming_new
   pub asks_on : (asks : List Asked) (replies : Replies) (olds : List (Known Item (Root C))) → length replies ≡ length asks →
-      length olds ≡ LAST_TILL → AllRanOn coming asks replies olds mids →
-      AllRanOn coming (asks ++ ask ∷ []) (replies ++ told ∷ []) olds news
+      length olds ≡ LAST_TILL → MovedBy (readings replies) coming coming_old → AllRanOn (λ c. coming) asks replies olds mids →
+      AllRanOn (λ c. coming) (asks ++ ask ∷ []) (replies ++ told ∷ []) olds news
   pub looked : (olds : List (Known Item (Root C))) (asks : List Asked) (replies : Replies) (looks : List Looked) →
-      length replies ≡ length asks → LookedOn coming olds asks replies looks mids →
-      LookedOn coming olds (asks ++ ask ∷ []) (replies ++ told ∷ []) looks news
+      length replies ≡ length asks → MovedBy (readings replies) coming coming_old → LookedOn (λ c. coming) olds asks replies looks mids →
+      LookedOn (λ c. coming) olds (asks ++ ask ∷ []) (replies ++ told ∷ []) looks news
   pub of_till : IsOfTill ask
   pub lacked_is : new_lacked ≡ (old_lacked || is_no_memory told)
   pub replied : IsReplied told s (reply_text ask told) end
 
 -- no till ran, but some may have seen on
-abbrev pub KeepsRuns : {C : Type 0} → (C → ℕ → Option ℕ) → List (Known Item (Root C)) → List (Known Item (Root C)) → Type 0
+abbrev pub KeepsRuns : {C : Type 0} → (ℕ → Option ℕ) → List (Known Item (Root C)) → List (Known Item (Root C)) → Type 0
 KeepsRuns {C} coming mids news = (asks : List Asked) (replies : Replies) (olds : List (Known Item (Root C))) →
-    AllRanOn coming asks replies olds mids → AllRanOn coming asks replies olds news
+    AllRanOn (λ c. coming) asks replies olds mids → AllRanOn (λ c. coming) asks replies olds news
 
 -- a question was answered at a history
-pub record AnswersOne {C : Type 0} (coming : C → ℕ → Option ℕ) (asked : TillQuestion) (s : Sinks)
+pub record AnswersOne {C : Type 0} (coming : ℕ → Option ℕ) (asked : TillQuestion) (s : Sinks)
     (mids news : List (Known Item (Root C))) (end : Option SpeechEnd) : Type 0 where
   pub history : List Entry
   pub text : List ℕ
   pub is : IsAnswer asked history text
   pub looked : (olds : List (Known Item (Root C))) (asks : List Asked) (replies : Replies) (looks : List Looked) →
-      LookedOn coming olds asks replies looks mids →
-      LookedOn coming olds asks replies (looks ++ record { after = length replies; history = history } ∷ []) news
+      LookedOn (λ c. coming) olds asks replies looks mids →
+      LookedOn (λ c. coming) olds asks replies (looks ++ record { after = length replies; history = history } ∷ []) news
   pub written : IsAnswered s text end
 
 -- there was no memory for its answer
-pub record AnswersNone {C : Type 0} (coming : C → ℕ → Option ℕ) (s : Sinks) (mids news : List (Known Item (Root C)))
+pub record AnswersNone {C : Type 0} (coming : ℕ → Option ℕ) (s : Sinks) (mids news : List (Known Item (Root C)))
     (end : Option SpeechEnd) : Type 0 where
   pub how : end ≡ Some how.NoMemory
   pub nothing : WroteNothing s
   pub looked : (olds : List (Known Item (Root C))) (asks : List Asked) (replies : Replies) (looks : List Looked) →
-      LookedOn coming olds asks replies looks mids → LookedOn coming olds asks replies looks news
+      LookedOn (λ c. coming) olds asks replies looks mids → LookedOn (λ c. coming) olds asks replies looks news
 
 -- what a line asks for was done
-abbrev pub CarriesOut : {C : Type 0} → (C → ℕ → Option ℕ) → Action → Sinks → Bool → Bool → List (Known Item (Root C)) →
+abbrev pub CarriesOut : {C : Type 0} → (coming coming_old coming_new : ℕ → Option ℕ) → Action → Sinks → Bool → Bool → List (Known Item (Root C)) →
     List (Known Item (Root C)) → Option SpeechEnd → Type 0
-CarriesOut coming (Write text) s old_lacked new_lacked mids news end = (new_lacked ≡ old_lacked) × (news ≡ mids) × IsAnswered s text end
-CarriesOut coming (Clock start step text) s old_lacked new_lacked mids news end =
-    (new_lacked ≡ old_lacked) × (news ≡ mids) × IsAnswered s text end
-CarriesOut coming (Ask ask) s old_lacked new_lacked mids news end = AsksOne coming ask s old_lacked new_lacked mids news end
-CarriesOut coming (Look asked) s old_lacked new_lacked mids news end =
-    (new_lacked ≡ old_lacked) × KeepsRuns coming mids news × (AnswersOne coming asked s mids news end ⊎ AnswersNone coming s mids news end)
+CarriesOut coming coming_old coming_new (Write text) s old_lacked new_lacked mids news end =
+    (new_lacked ≡ old_lacked) × (news ≡ mids) × IsAnswered s text end × (coming_new ≡ coming_old)
+CarriesOut coming coming_old coming_new (Clock start step text) s old_lacked new_lacked mids news end =
+    (new_lacked ≡ old_lacked) × (news ≡ mids) × IsAnswered s text end × (coming_new ≡ coming_old)
+CarriesOut coming coming_old coming_new (Ask ask) s old_lacked new_lacked mids news end =
+    AsksOne coming coming_old coming_new ask s old_lacked new_lacked mids news end
+CarriesOut coming coming_old coming_new (Look asked) s old_lacked new_lacked mids news end =
+    (new_lacked ≡ old_lacked) × KeepsRuns coming mids news ×
+    (AnswersOne coming asked s mids news end ⊎ AnswersNone coming s mids news end) × (coming_new ≡ coming_old)

@@ -1,12 +1,15 @@
 //! All tills of a shop, held by one thread, the last one first.
-ghost use Rattle.std.specs.Prelude.{◌≡◌, ◌<◌, ◌≤◌, ◌++◌, ◌∷◌, [], List, length, map, reverse, All, IfOk, vec_capacity, vec_len};
+ghost use Rattle.std.specs.Prelude.{◌≡◌, ◌<◌, ◌≤◌, ◌++◌, ◌∷◌, [], ℕ, List, Option, length, map, reverse, All, IfOk, vec_capacity, vec_len};
 ghost use Rattle.std.specs.List.{range_with_len};
 ghost use Rattle.chain_lock.specs.Known.{Known};
+ghost use Rattle.chain_store.specs.Readings.{readings};
 ghost use Rattle.chain_store.specs.Replies.{Replies};
+ghost use Rattle.ports.specs.Readings.{MovedBy};
 ghost use Rattle.record_codec.specs.declared.entry.TheConstants.{LAST_TILL};
 ghost use Rattle.shop_core.specs.Answer.Requests.{Asked};
 ghost use Rattle.shop_core.specs.declared.items.Item.{Item};
 ghost use Rattle.till_calls.specs.Root.{Root};
+ghost use Rattle.till_calls.specs.declared.clockless.Clockless.{Clockless as NoClock};
 ghost use Rattle.till_calls.specs.Shop.{made_tills, numbers, seat_knows, seat_shop, shop_id, till_knows, till_number, till_shop};
 ghost use Rattle.till_calls.specs.Shop.{tills_know, tills_shop};
 ghost use Rattle.dialogue.specs.Protocol.{Look};
@@ -25,7 +28,7 @@ use shop_core::{Ask, Reply};
 use std::alloc::Global;
 use std::sync::Wait;
 use till_calls::{
-    SenderSeat, Shop, Till, Tills, a_list_fits_what_was_known_before,
+    Clockless, SenderSeat, Shop, Till, Tills, a_list_fits_what_was_known_before,
     an_ask_goes_on_from_what_was_known_before, who_sees_on_twice_sees_on,
 };
 
@@ -87,12 +90,14 @@ fn inform_till<D: Disk, C: Clock>(shop: &Shop<D, C>, held: &mut Vec<Till<D, C>>,
     }
 }
 
-/// Asks for one more, at the till of its number. The first till, which knows of all that was answered, tells it of how many items
-/// that are, and is told in turn, so each ask is at a history that has what was answered before it.
+/// Asks for one more, at the till of its number, and at the next reading of the clock. The first till, which knows of all that was
+/// answered, tells it of how many items that are, and is told in turn, so each ask is at a history that has what was answered before
+/// it.
 pub fn ask_held<D: Disk, C: Clock, T: Gate, R: Wait>(
     means: SpeechMeans<'_, R, T>,
-    shop: &Shop<D, C>,
-    held: &mut Vec<Till<D, C>>,
+    shop: &Shop<D, Clockless>,
+    held: &mut Vec<Till<D, Clockless>>,
+    clock: &mut C,
     ask: &Ask,
 ) -> Result<Reply, StoreFault>
     requires own { All (λ t. till_shop t ≡ shop_id shop.now) held.old.items }
@@ -100,21 +105,32 @@ pub fn ask_held<D: Disk, C: Clock, T: Gate, R: Wait>(
     ensures own { All (λ t. till_shop t ≡ shop_id shop.now) held.new.items }
     ensures numbers { map till_number held.new.items ≡ map till_number held.old.items }
     ensures of_till { IsOfTill ask.now }
-    ensures asks { (asks : List Asked) (replies : Replies) (before : List (Known Item (Root C))) → length replies ≡ length asks →
-        length before ≡ LAST_TILL → AllRanOn C.coming asks replies before (map till_knows held.old.items) →
-        AllRanOn C.coming (asks ++ ask.now ∷ []) (replies ++ result ∷ []) before (map till_knows held.new.items) }
-    ensures looked { (olds : List (Known Item (Root C))) (asks : List Asked) (replies : Replies) (looks : List Look) →
-        length replies ≡ length asks → LookedOn C.coming olds asks replies looks (map till_knows held.old.items) →
-        LookedOn C.coming olds (asks ++ ask.now ∷ []) (replies ++ result ∷ []) looks (map till_knows held.new.items) }
+    ensures moved { MovedBy 1 (C.coming clock.old) (C.coming clock.new) }
+    ensures asks { (coming : ℕ → Option ℕ) (asks : List Asked) (replies : Replies) (before : List (Known Item (Root NoClock))) →
+        length replies ≡ length asks → length before ≡ LAST_TILL → MovedBy (readings replies) coming (C.coming clock.old) →
+        AllRanOn (λ c. coming) asks replies before (map till_knows held.old.items) →
+        AllRanOn (λ c. coming) (asks ++ ask.now ∷ []) (replies ++ result ∷ []) before (map till_knows held.new.items) }
+    ensures looked { (coming : ℕ → Option ℕ) (olds : List (Known Item (Root NoClock))) (asks : List Asked) (replies : Replies)
+        (looks : List Look) → length replies ≡ length asks → MovedBy (readings replies) coming (C.coming clock.old) →
+        LookedOn (λ c. coming) olds asks replies looks (map till_knows held.old.items) →
+        LookedOn (λ c. coming) olds (asks ++ ask.now ∷ []) (replies ++ result ∷ []) looks (map till_knows held.new.items) }
 {
-    an_ask_goes_on_from_what_was_known_before::<C>();
-    who_sees_on_twice_sees_on::<C>();
-    a_list_fits_what_was_known_before::<C>();
+    an_ask_goes_on_from_what_was_known_before::<Clockless>();
+    who_sees_on_twice_sees_on::<Clockless>();
+    a_list_fits_what_was_known_before::<Clockless>();
     means.gate.before(means.rt, ask.till, ask.serial);
     let place = usize::from(LAST_TILL - ask.till);
     inform_till(shop, held, place);
     let till = &mut held[place];
-    let reply = shop.ask(means.rt, means.alloc, till, ask.serial, &ask.request);
+    let seconds = clock.now();
+    let reply = shop.ask_at(
+        means.rt,
+        means.alloc,
+        till,
+        ask.serial,
+        &ask.request,
+        seconds,
+    );
     inform_first(shop, held, place);
     means.gate.after(means.rt, ask.till, ask.serial);
     reply
@@ -132,8 +148,9 @@ pub fn look_held<D: Disk, C: Clock, R: Wait>(
     requires numbers { reverse (map till_number held.old.items) ≡ range_with_len 1 LAST_TILL }
     ensures own { All (λ t. till_shop t ≡ shop_id shop.now) held.new.items }
     ensures numbers { map till_number held.new.items ≡ map till_number held.old.items }
-    ensures runs { KeepsRuns C.coming (map till_knows held.old.items) (map till_knows held.new.items) }
-    ensures looked { LookedFor C.coming question.now result (map till_knows held.old.items) (map till_knows held.new.items) }
+    ensures runs { (coming : ℕ → Option ℕ) → KeepsRuns coming (map till_knows held.old.items) (map till_knows held.new.items) }
+    ensures looked { (coming : ℕ → Option ℕ) → LookedFor (λ c. coming) question.now result (map till_knows held.old.items)
+        (map till_knows held.new.items) }
 {
     who_sees_on_twice_sees_on::<C>();
     a_list_fits_what_was_known_before::<C>();

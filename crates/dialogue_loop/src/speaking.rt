@@ -7,6 +7,8 @@ ghost use Rattle.ports.specs.Sinks.{OutputIs, this_sink};
 ghost use Rattle.record_codec.specs.declared.entry.TheConstants.{LAST_TILL};
 ghost use Rattle.shop_core.specs.declared.items.Item.{Item};
 ghost use Rattle.till_calls.specs.Root.{Root};
+ghost use Rattle.till_calls.specs.Sound.{IsLater};
+ghost use Rattle.till_calls.specs.declared.clockless.Clockless.{Clockless as NoClock};
 ghost use Rattle.till_calls.specs.Shop.{shop_id, till_knows, till_number, till_shop};
 ghost use Rattle.dialogue_loop.specs.Speech.{CarriesOut, ComesFirst, ComesOnce, DialogueSoFar, EndsOnce, Goes, GoesOnce};
 ghost use Rattle.dialogue_loop.specs.Speech.{HasAnswered, IsAnswered, IsCause};
@@ -23,7 +25,7 @@ use shop_core::{Ask, Reply};
 use std::alloc::Global;
 use std::sync::Wait;
 use std::sync::atomic::{AtomicBool, Ordering};
-use till_calls::{Shop, Till};
+use till_calls::{Clockless, Shop, Till};
 
 /// How a dialogue ends.
 #[derive(Clone, Copy, Debug, PartialEq, Eq)]
@@ -48,14 +50,16 @@ pub struct SpeechMeans<'a, R, T> {
     pub stop: &'a AtomicBool,
 }
 
-/// How far a dialogue has come: the tills, and what was heard so far.
+/// How far a dialogue has come: the tills of a shop without a clock of its own, what was heard so far, and the clock.
 #[derive(Drop)]
 pub struct SpeechState<D: Disk, C: Clock> {
     pub listener: Listener,
     /// All tills, the last one first.
-    pub held: Vec<Till<D, C>>,
+    pub held: Vec<Till<D, Clockless>>,
     /// Whether some command found no memory.
     pub lacked: bool,
+    /// The clock, which is read once for each command.
+    pub clock: C,
 }
 
 // Writes an answer, all of it or until the sink fails.
@@ -132,7 +136,7 @@ fn answer_reply<K: Sink>(
 // answer can be read no turn of it begins.
 fn carry_out<K: Sink, D: Disk, C: Clock, T: Gate, R: Wait>(
     means: SpeechMeans<'_, R, T>,
-    shop: &Shop<D, C>,
+    shop: &Shop<D, Clockless>,
     speech: &mut SpeechState<D, C>,
     sink: &mut K,
     action: &Action,
@@ -142,8 +146,10 @@ fn carry_out<K: Sink, D: Disk, C: Clock, T: Gate, R: Wait>(
     ensures own { All (λ t. till_shop t ≡ shop_id shop.now) speech.new.held.items }
     ensures numbers { map till_number speech.new.held.items ≡ map till_number speech.old.held.items }
     ensures listener { speech.new.listener ≡ speech.old.listener }
-    ensures carries_out { CarriesOut C.coming action.now (this_sink K.taken K.faults sink.old sink.new) speech.old.lacked
+    ensures carries_out { (coming : ℕ → Option ℕ) → CarriesOut coming (C.coming speech.old.clock) (C.coming speech.new.clock) action.now
+        (this_sink K.taken K.faults sink.old sink.new) speech.old.lacked
         speech.new.lacked (map till_knows speech.old.held.items) (map till_knows speech.new.held.items) result }
+    ensures time { IsLater C.coming speech.old.clock speech.new.clock }
     ensures later { K.faults sink.old ≤ K.faults sink.new }
 {
     match action {
@@ -154,7 +160,7 @@ fn carry_out<K: Sink, D: Disk, C: Clock, T: Gate, R: Wait>(
             text,
         } => answer(sink, text.as_slice()),
         Action::Ask(ask) => {
-            let told = ask_held(means, shop, &mut speech.held, ask);
+            let told = ask_held(means, shop, &mut speech.held, &mut speech.clock, ask);
             speech.lacked = speech.lacked || is_no_memory(&told);
             stop_at_fault(means.stop, &told);
             answer_reply(means.alloc, ask, &told, sink)
@@ -171,7 +177,7 @@ fn carry_out<K: Sink, D: Disk, C: Clock, T: Gate, R: Wait>(
 // Reads a line and answers it. None: the dialogue goes on.
 fn one_line<S: Source, K: Sink, D: Disk, C: Clock, T: Gate, R: Wait>(
     means: SpeechMeans<'_, R, T>,
-    shop: &Shop<D, C>,
+    shop: &Shop<D, Clockless>,
     speech: &mut SpeechState<D, C>,
     source: &mut S,
     sink: &mut K,
@@ -180,12 +186,13 @@ fn one_line<S: Source, K: Sink, D: Disk, C: Clock, T: Gate, R: Wait>(
     requires numbers { reverse (map till_number speech.old.held.items) ≡ range_with_len 1 LAST_TILL }
     ensures own { All (λ t. till_shop t ≡ shop_id shop.now) speech.new.held.items }
     ensures numbers { map till_number speech.new.held.items ≡ map till_number speech.old.held.items }
-    ensures goes { (clock : Option (ℕ × ℕ)) (from : _) (olds : List (Known Item (Root C))) → length olds ≡ LAST_TILL →
+    ensures goes { (coming : ℕ → Option ℕ) (clock : Option (ℕ × ℕ)) (from : _) (olds : List (Known Item (Root NoClock))) → length olds ≡ LAST_TILL →
         HasAnswered speech.old.listener →
-        DialogueSoFar C.coming clock from (moment_of S.left S.faults K.taken K.faults source.old sink.old) speech.old.listener
+        DialogueSoFar coming (C.coming speech.old.clock) clock from (moment_of S.left S.faults K.taken K.faults source.old sink.old) speech.old.listener
         speech.old.lacked olds (map till_knows speech.old.held.items) →
-        Goes C.coming clock from (moment_of S.left S.faults K.taken K.faults source.new sink.new) speech.new.listener
+        Goes coming (C.coming speech.new.clock) clock from (moment_of S.left S.faults K.taken K.faults source.new sink.new) speech.new.listener
         speech.new.lacked olds (map till_knows speech.new.held.items) result }
+    ensures time { IsLater C.coming speech.old.clock speech.new.clock }
     ensures once { IsTrue S.counts → GoesOnce (S.faults source.old) (S.faults source.new) result }
 {
     match speech.listener.next_action(means.rt, means.alloc, source) {
@@ -198,7 +205,7 @@ fn one_line<S: Source, K: Sink, D: Disk, C: Clock, T: Gate, R: Wait>(
 /// it where there is one.
 pub fn speak<S: Source, K: Sink, D: Disk, C: Clock, T: Gate, R: Wait>(
     means: SpeechMeans<'_, R, T>,
-    shop: &Shop<D, C>,
+    shop: &Shop<D, Clockless>,
     speech: &mut SpeechState<D, C>,
     source: &mut S,
     sink: &mut K,
@@ -207,12 +214,13 @@ pub fn speak<S: Source, K: Sink, D: Disk, C: Clock, T: Gate, R: Wait>(
     requires numbers { reverse (map till_number speech.old.held.items) ≡ range_with_len 1 LAST_TILL }
     ensures own { All (λ t. till_shop t ≡ shop_id shop.now) speech.new.held.items }
     ensures numbers { map till_number speech.new.held.items ≡ map till_number speech.old.held.items }
-    ensures spoken { (clock : Option (ℕ × ℕ)) (from : _) (olds : List (Known Item (Root C))) → length olds ≡ LAST_TILL →
+    ensures spoken { (coming : ℕ → Option ℕ) (clock : Option (ℕ × ℕ)) (from : _) (olds : List (Known Item (Root NoClock))) → length olds ≡ LAST_TILL →
         HasAnswered speech.old.listener →
-        DialogueSoFar C.coming clock from (moment_of S.left S.faults K.taken K.faults source.old sink.old) speech.old.listener
+        DialogueSoFar coming (C.coming speech.old.clock) clock from (moment_of S.left S.faults K.taken K.faults source.old sink.old) speech.old.listener
         speech.old.lacked olds (map till_knows speech.old.held.items) →
-        Spoken C.coming clock from (moment_of S.left S.faults K.taken K.faults source.new sink.new)
+        Spoken coming clock from (moment_of S.left S.faults K.taken K.faults source.new sink.new)
         speech.new.lacked olds (map till_knows speech.new.held.items) result }
+    ensures time { IsLater C.coming speech.old.clock speech.new.clock }
     ensures once { IsTrue S.counts → EndsOnce (S.faults source.old) (S.faults source.new) result }
 {
     for _ in means.rt.forever() {
@@ -227,7 +235,7 @@ pub fn speak<S: Source, K: Sink, D: Disk, C: Clock, T: Gate, R: Wait>(
 /// Does what the first answered line asks for, and goes on with the next ones; or ends as its reading did.
 pub fn answer_lines<S: Source, K: Sink, D: Disk, C: Clock, T: Gate, R: Wait>(
     means: SpeechMeans<'_, R, T>,
-    shop: &Shop<D, C>,
+    shop: &Shop<D, Clockless>,
     speech: &mut SpeechState<D, C>,
     first: &Result<Action, SpeechEnd>,
     source: &mut S,
@@ -243,9 +251,10 @@ pub fn answer_lines<S: Source, K: Sink, D: Disk, C: Clock, T: Gate, R: Wait>(
     //= No body: its fields have bodies of their own
     ensures spoken { (left : Option (List ℕ)) (faults : ℕ) → ComesFirst left (S.left source.old) speech.old.listener first.now →
         faults ≤ S.faults source.old → IsCause faults (S.faults source.old) first.now →
-        Spoken C.coming (clock_first first.now) (moment_since left faults (K.taken sink.old) (K.faults sink.old))
+        Spoken (C.coming speech.old.clock) (clock_first first.now) (moment_since left faults (K.taken sink.old) (K.faults sink.old))
         (moment_of S.left S.faults K.taken K.faults source.new sink.new) speech.new.lacked
         (map till_knows speech.old.held.items) (map till_knows speech.new.held.items) result }
+    ensures time { IsLater C.coming speech.old.clock speech.new.clock }
     //= ! it is `next_line`'s, which has one
     //= No body: it is `next_line`, whose body it is
     ensures once { IsTrue S.counts → (faults : ℕ) → ComesOnce faults (S.faults source.old) first.now →

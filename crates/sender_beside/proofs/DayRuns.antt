@@ -159,10 +159,11 @@ no_stop_yet p e =
     ap (λ (s : Option ℕ). length (map item.Entry p.state.entries ++ stop_in s p.torn)) e ∙ ap (λ (l : List Item). length l)
     (append-nil (map item.Entry p.state.entries)) ∙ length-map p.state.entries (λ (x : Entry). item.Entry x)
 
-module _ {D C : Type 0} (tells : Bool) (tell : D → OnDisk) (faults : D → ℕ) (coming : C → ℕ → Option ℕ) (asks : List Asked)
-    (root : Root C) (p : Parts D C) (for_no_other : AddsForNoOther coming) (what_is_taken : AddsWhatIsTaken coming) where
+-- a shop that is sound by its own clock, asked at readings that these answers tell
+module _ {D C : Type 0} (tells : Bool) (tell : D → OnDisk) (faults : D → ℕ) (coming shop_clock : C → ℕ → Option ℕ)
+    (asks : List Asked) (root : Root C) (p : Parts D C) (for_no_other : AddsForNoOther coming) (what_is_taken : AddsWhatIsTaken coming) where
   abbrev Sound : Type 0
-  Sound = IsSound tells tell faults coming root p
+  Sound = IsSound tells tell faults shop_clock root p
 
   abbrev Counted : Type 0
   Counted = length (noted_in p.state.entries) ≡ length (recs p.state.entries)
@@ -293,7 +294,7 @@ module _ {D C : Type 0} (tells : Bool) (tell : D → OnDisk) (faults : D → ℕ
           within = h.within;
         }
 
-    pub whole : SendsBeside day → DayRun (record { tells = tells; on_disk = tell; faults = faults; coming = coming }) root p day
+    pub whole : SendsBeside day → DayRun (record { tells = tells; on_disk = tell; faults = faults; coming = shop_clock }) root p day
     whole sends = record {
       sound = sound;
       served = each_map (λ (r : Row C). r.part) (TillServed day) rows all_served;
@@ -379,17 +380,18 @@ module _ {D C : Type 0} (tells : Bool) (tell : D → OnDisk) (faults : D → ℕ
       (seen_whole tell faults coming asks p root base within sees ran.rows news.0 ran.worked seat then h' told') delivered)
 
   -- the day of the tills that ran and of the sender that ran with them, once their shop is closed
-  pub ended : (kind : AgencyKind) (opened after : AgencyState) (drains : Bool) (answer : Result (Unit {0}) DrainFault) →
+  pub ended : (shop_clock : C → ℕ → Option ℕ) (kind : AgencyKind) (opened after : AgencyState) (drains : Bool)
+      (answer : Result (Unit {0}) DrainFault) →
       AddsForNoOther coming → AddsWhatIsTaken coming →
       length base ≡ length root.history → AreDistinct tills → Shared base (items_in p) root new
       seat then →
       Adds AreNotes (sight_by seat) (sight_by then) ⊎ FailsAtNotes kind opened after answer → (IsDiskAnswer answer → IsSome p.stopped) →
-      IsSound tells tell faults coming root p →
+      IsSound tells tell faults shop_clock root p →
       (drains ≡ true → OnOk answer (length (noted_in p.state.entries) ≡ length (recs p.state.entries))) →
       SendsBeside (shop_day coming asks root p parts kind opened after drains answer) →
-      DayRun (record { tells = tells; on_disk = tell; faults = faults; coming = coming }) root p
+      DayRun (record { tells = tells; on_disk = tell; faults = faults; coming = shop_clock }) root p
       (shop_day coming asks root p parts kind opened after drains answer)
-  ended kind opened after drains answer for_no_other what_is_taken size distinct h notes disk sound counted sends =
+  ended shop_clock kind opened after drains answer for_no_other what_is_taken size distinct h notes disk sound counted sends =
       let distinct' : AreDistinct (map (λ (r : Row C). r.part.till) ran.rows) =
       subst (λ (l : List ℕ). AreDistinct l) ran.tills_are distinct in
       let fits' : AllByRecursion (Fits (items_in p)) (after_all coming asks ran.rows ++ then ∷ []) =
@@ -400,9 +402,9 @@ module _ {D C : Type 0} (tells : Bool) (tell : D → OnDisk) (faults : D → ℕ
       subst (λ (l : List (Known Item (Root C))). (n : ℕ) → length base ≤ n → n < length (items_in p) → owners n (l ++ then ∷ []) ≡
       1) ran.new_are h.since in
       let Told : List TillReplies → Day = λ l. shop_day coming asks root p l kind opened after drains answer in
-      subst (λ (l : List TillReplies). DayRun (record { tells = tells; on_disk = tell; faults = faults; coming = coming }) root p (Told l))
+      subst (λ (l : List TillReplies). DayRun (record { tells = tells; on_disk = tell; faults = faults; coming = shop_clock }) root p (Told l))
       (sym ran.parts_are)
-      (whole tells tell faults coming asks root p for_no_other what_is_taken base size ran.rows then distinct' news.0 seat news.1 kind opened after
+      (whole tells tell faults coming shop_clock asks root p for_no_other what_is_taken base size ran.rows then distinct' news.0 seat news.1 kind opened after
       drains answer (bare base (items_in p) root new seat then h) (Adds AreNotes (sight_by seat) (sight_by then))
       (all_noted base (items_in p) root new seat then h (Adds AreNotes (sight_by seat) (sight_by then)) (λ added. added)) notes
       disk ran.worked fits' h.starts since' sound counted (subst (λ (l : List TillReplies). SendsBeside (Told l)) ran.parts_are sends))

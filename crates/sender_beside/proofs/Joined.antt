@@ -47,10 +47,10 @@ use Rattle.sender_beside.proofs.ClosedShop.{GivenStore, Shared, agreed, agreed_t
 use Rattle.sender_beside.proofs.ClosedShop.{torn_said}
 use Rattle.sender_beside.proofs.Sessions.{session_steps}
 
-module _ {D C : Type 0} (tells : Bool) (on_disk : D → OnDisk) (faults : D → ℕ) (coming : C → ℕ → Option ℕ) (p : Parts D C)
+module _ {D C : Type 0} (tells : Bool) (on_disk : D → OnDisk) (faults : D → ℕ) (coming shop_clock : C → ℕ → Option ℕ) (p : Parts D C)
     (root : Root C) (base : List Item) (tills : List (Known Item (Root C))) (seat then : Known Item (Root C))
     (h : Shared base (items_in p) root tills seat then)
-    (sound : IsSound tells on_disk faults coming root p) (is : base ≡ map item.Entry root.history)
+    (sound : IsSound tells on_disk faults shop_clock root p) (is : base ≡ map item.Entry root.history)
     (legal : Legal root.version root.issuer root.history) (asks : List Asked) (told_all : List TillReplies)
     (kind : AgencyKind) (old new : AgencyState) (drains : Bool) (sending : Sending) (answer : Result (Unit {0}) DrainFault)
     (sends : SendsOn kind (sight_by seat) (sight_by then) old new fresh sending answer) where

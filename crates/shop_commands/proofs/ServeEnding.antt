@@ -1,7 +1,7 @@
 -- How a dialogue with the tills of a shop ends, and what the clause of `serve` says of the whole call.
 use Rattle.std.proofs.Common.{◌≡◌, ◌⊎◌, inl, inr, ℕ, ◌+◌, ◌-◌, ◌^◌, ◌<◌, ◌≤◌, List, [], length, map, sym, ◌∙◌, ap, subst, refl}
 use Rattle.std.proofs.Common.{arith, Bool, true, false, IsTrue, Option, Some, None, Result, Ok, Err}
-use Rattle.std.specs.Prelude.{IsErrOf, drop}
+use Rattle.std.specs.Prelude.{IsErrOf, drop, take}
 use Rattle.std.specs.Io.KnownBytes.{Consumes}
 use Rattle.std.specs.List.{list_any, range_with_len}
 use Rattle.agency_port.specs.declared.turns.Evidence.{Evidence}
@@ -10,7 +10,7 @@ use Rattle.chain_disk.specs.Disks.{DiskRose, this_disk}
 use Rattle.chain_disk.specs.OnDisk.{IsImage, LeavesNow, LeavesOnly, synced}
 use Rattle.chain_store.specs.Clocks.{Clocks, LeftClock, this_clock}
 use Rattle.chain_store.specs.Losing.{NeverLoses}
-use Rattle.chain_store.specs.Readings.{readings_of}
+use Rattle.chain_store.specs.Readings.{readings, readings_of}
 use Rattle.chain_store.specs.Replies.{Replies, is_disk_fault, is_no_memory}
 use Rattle.dialogue_loop.specs.Speech.{AreRepliesOf, ComesFirst, ComesOnce, EndsOnce, IsRead, IsWritten, Moment}
 use Rattle.dialogue_loop.specs.declared.listener.Listener.{Listener}
@@ -38,6 +38,7 @@ use Rattle.shop_core.specs.File.Files.{StandsFor}
 use Rattle.shop_core.specs.History.{History, recs, noted}
 use Rattle.shop_core.specs.Rising.{SerialsRise}
 use Rattle.till_calls.specs.Root.{Parts, Root, root_of}
+use Rattle.till_calls.specs.Sound.{IsLater}
 use Rattle.shop_drain.specs.Opening.{IsUnbegun, IsOpened}
 use Rattle.sender_session.specs.Contradictions.{ShowsLast}
 use Rattle.shop_commands.specs.Day.{Outcome}
@@ -47,7 +48,7 @@ use Rattle.sender_beside.specs.Days.{Day, TillReplies, all_replies, shop_day}
 use Rattle.shop_drain.specs.Devices.{Agencies, AllDevices, Around, LeftSleeper, Sleepers, around}
 use Rattle.sender_session.specs.Kinds.{StoreKind}
 use Rattle.shop_drain.specs.Draining.{AgreesAtStart, OpensSession}
-use Rattle.shop_commands.specs.Drain.{NothingRose}
+use Rattle.shop_commands.specs.Drain.{LeavesTime, NothingRose}
 use Rattle.sender_session.specs.Session.{IsDiskAnswer}
 use Rattle.shop_commands.specs.Serve.{Closes, EndsAtFault, FileServe, IsReadEnd, ServeEnds, ServeWays, SpeechEnds, SpeechServed, day_said, printed}
 use Rattle.shop_commands.specs.Serve.{end_of, source_since}
@@ -171,7 +172,8 @@ came_read left now l (Err end) h = by_end end h.read
     by_end speech.Stopped r = (r.taken, r.consumed)
 
 -- an opened file, before its dialogue and after it
-module _ {D C Z G : Type 0} (h : StoreKind D C) (issuer : List ℕ) (disk : D) (old new : Parts D C) (z : Sleepers Z) (a : Agencies G)
+module _ {D C Z G : Type 0} (h : StoreKind D C) (coming : C → ℕ → Option ℕ) (issuer : List ℕ) (disk : D) (old new : Parts D C)
+    (z : Sleepers Z) (a : Agencies G)
     (s : Sources) (k : Sinks) (clock : Option (ℕ × ℕ)) (is_opened : IsOpened issuer h disk old.clock old)
     (reads : (d : D) → IsTrue h.tells → IsImage (h.on_disk d).now (h.on_disk d).content)
     (rules_tell : IsTrue a.kind.keeps_rules → IsTrue a.kind.tells) where
@@ -179,7 +181,7 @@ module _ {D C Z G : Type 0} (h : StoreKind D C) (issuer : List ℕ) (disk : D) (
   opened_call = record {
     sink = k;
     disk = this_disk h.tells h.on_disk h.faults disk new.disk;
-    clock = this_clock h.coming old.clock new.clock;
+    clock = this_clock coming old.clock new.clock;
     sleeper = z;
     agency = a;
   }
@@ -192,7 +194,7 @@ module _ {D C Z G : Type 0} (h : StoreKind D C) (issuer : List ℕ) (disk : D) (
       WroteNothing k → LeftSleeper z → (taken : List ℕ) × Consumes s.left s.left_after taken →
       FileServe issuer None clock s opened_call detail.NoMemory
   not_begun same begun wrote left read = inl (record {
-    shop = not_asked h issuer [] plain disk new.disk old.clock new.clock z a old k is_opened reads rules_tell detail.NoMemory (record {
+    shop = not_asked h coming issuer [] plain disk new.disk old.clock new.clock z a old k is_opened reads rules_tell detail.NoMemory (record {
       ends = refl;
       wrote = wrote;
       disk = ap (λ (p : Parts D C). p.disk) same;
@@ -205,7 +207,7 @@ module _ {D C Z G : Type 0} (h : StoreKind D C) (issuer : List ℕ) (disk : D) (
 
   module _ (agency_state : AgencyState) (opens : OpensSession a.kind a.begun plain first a.before agency_state) (answer : Result (Unit {0}) DrainFault)
       (lacked : Bool) (how : SpeechEnd) (from now : Moment)
-      (run : DialogueRun h (root_of h.on_disk h.faults old) new clock from now a.kind agency_state a.after answer lacked how)
+      (later : IsLater coming old.clock new.clock) (run : DialogueRun h (coming old.clock) (root_of h.on_disk h.faults old) new clock from now a.kind agency_state a.after answer lacked how)
       (behind : DrainsBehind a.kind (drains_after how) agency_state a.after answer)
       (session : SessionSteps a.kind.tells z.tells (drains_after how) (z.moment z.sleeper) first new.state.entries agency_state a.after answer)
       (linked : Linked old.state.issuer (recs new.state.entries)) (rising : (till : ℕ) → SerialsRise new.state.entries till) where
@@ -222,23 +224,24 @@ module _ {D C Z G : Type 0} (h : StoreKind D C) (issuer : List ℕ) (disk : D) (
         Closes began closed → AreRepliesOf began asks replies answers → lacked ≡ list_any is_no_memory replies →
         (began ≡ speech.ReadFault → SourceRose s) → IsWritten closed k texts →
         SpeechEnds began replies answer lines records texts s k end) →
-        FileServe issuer None clock s opened_call end
+        SpeechServed issuer None clock s opened_call end
     talked closed end same closes written ends =
         let x = run.speech in
         let root : Root C = root_of h.on_disk h.faults old in
-        let served : DayRun h root new (shop_day h.coming x.said.asks root new run.tills a.kind agency_state a.after
+        let served : DayRun h root new (shop_day coming x.said.asks root new run.tills a.kind agency_state a.after
         (drains_after x.how) answer) =
-        subst (λ (b : SpeechEnd). DayRun h root new (shop_day h.coming x.said.asks root new run.tills a.kind agency_state a.after
+        subst (λ (b : SpeechEnd). DayRun h root new (shop_day coming x.said.asks root new run.tills a.kind agency_state a.after
         (drains_after b) answer)) (sym run.how_is) run.run in
         let sent : DrainsBehind a.kind (drains_after x.how) agency_state a.after answer =
         subst (λ (b : SpeechEnd). DrainsBehind a.kind (drains_after b) agency_state a.after answer) (sym run.how_is) behind in
-        let did : ShopDid h x.said.asks a.kind agency_state a.after (drains_after x.how) z.tells (z.moment z.sleeper) old new.disk
+        let did : ShopDid h coming x.said.asks a.kind agency_state a.after (drains_after x.how) z.tells (z.moment z.sleeper) old new.disk
         new.clock = record {
           new = new;
           tills = run.tills;
           answer = answer;
           disk = refl;
           clock = refl;
+          time = later;
           run = served;
           behind = sent;
           session = subst (λ (b : SpeechEnd). SessionSteps a.kind.tells z.tells (drains_after b) (z.moment z.sleeper) first
@@ -246,22 +249,22 @@ module _ {D C Z G : Type 0} (h : StoreKind D C) (issuer : List ℕ) (disk : D) (
           linked = linked;
           rising = rising;
         } in
-        let facts = day_facts h issuer x.said.asks plain disk new.disk old.clock new.clock z a old k is_opened reads rules_tell agency_state opens
+        let facts = day_facts h coming issuer x.said.asks plain disk new.disk old.clock new.clock z a old k is_opened reads rules_tell agency_state opens
         (drains_after x.how) did in
-        let spoken : IsSpeech clock (shop_day h.coming x.said.asks root new run.tills a.kind agency_state a.after (drains_after x.how)
+        let spoken : IsSpeech clock (shop_day coming x.said.asks root new run.tills a.kind agency_state a.after (drains_after x.how)
         answer) s x =
-        subst (λ (v : Sources). IsSpeech clock (shop_day h.coming x.said.asks root new run.tills a.kind agency_state a.after
+        subst (λ (v : Sources). IsSpeech clock (shop_day coming x.said.asks root new run.tills a.kind agency_state a.after
         (drains_after x.how) answer) v x) (sym same)
-        (subst (λ (b : SpeechEnd). IsSpeech clock (shop_day h.coming x.said.asks root new run.tills a.kind agency_state a.after
+        (subst (λ (b : SpeechEnd). IsSpeech clock (shop_day coming x.said.asks root new run.tills a.kind agency_state a.after
         (drains_after b) answer) (source_since from.left from.source_faults now.left now.source_faults) x) (sym run.how_is) run.spoken) in
-        let said = here h issuer x.said.asks plain disk new.disk old.clock new.clock z a old k is_opened reads rules_tell agency_state opens
+        let said = here h coming issuer x.said.asks plain disk new.disk old.clock new.clock z a old k is_opened reads rules_tell agency_state opens
         (drains_after x.how) did (λ (d : Day). IsSpeech clock d s x) spoken in
         let closes' : Closes x.how closed = subst (λ (b : SpeechEnd). Closes b closed) (sym run.how_is) closes in
         let written' : IsWritten closed k (printed x.how x.said.answers (chain_line records lines)) =
         subst (λ (b : SpeechEnd). IsWritten closed k (printed b x.said.answers (chain_line records lines))) (sym run.how_is) written in
-        inr (speech_done issuer clock s opened_call x _ facts said run.are end
+        speech_done issuer clock s opened_call x _ facts said run.are end
         (ends x.how x.said.asks x.said.replies x.said.answers (printed x.how x.said.answers (chain_line records lines)) s k closes' spoken.replies_are run.lacked_is
-        spoken.read_fault written'))
+        spoken.read_fault written')
 
 -- a dialogue by a clock that tells the same
 spoken_by : (d : Day) (new : ℕ → Option ℕ) (same : (k : ℕ) → d.coming k ≡ new k) (clock : Option (ℕ × ℕ)) (s : Sources) (x : Speech) →
@@ -282,7 +285,7 @@ spoken_by d new same clock s x h = record {
           gained = a.gained;
           next = a.next;
           seconds = a.seconds;
-          reading = (a.reading.0, subst (λ (o : Option ℕ). IsTold o a.seconds) (same a.reading.0) a.reading.1);
+          reading = subst (λ (o : Option ℕ). IsTold o a.seconds) (same (readings (take n x.said.replies))) a.reading;
           tells = a.tells;
         };
     looked = h.run.looked;
@@ -388,6 +391,32 @@ module _ {D C Z O P G : Type 0} (issuer : List ℕ) (said : Option (ℕ × ℕ))
         };
         time = (clock, sleeper);
       })
+
+-- the same dialogue, said of a call whose clock tells the same and was read while the shop had none
+pub served_by_clock : {D C Z O G : Type 0} (issuer : List ℕ) (said : Option (ℕ × ℕ)) (s : Sources) (c : Around D C Z G) (by : Clocks O)
+    (end : Detail) → ((k : ℕ) → by.coming by.clock k ≡ c.clock.coming c.clock.clock k) → LeavesTime None c.clock c.sleeper →
+    SpeechServed issuer None said s (record { sink = c.sink; disk = c.disk; clock = by; sleeper = c.sleeper; agency = c.agency }) end →
+    SpeechServed issuer None said s c end
+served_by_clock {D} {C} {Z} {O} {G} issuer said s c by end same time h =
+    let own : Around D O Z G = record { sink = c.sink; disk = c.disk; clock = by; sleeper = c.sleeper; agency = c.agency } in
+    let d : Day = day_said issuer h.speech None own h.outcome in
+    let new : ℕ → Option ℕ = c.clock.coming c.clock.clock in
+    record {
+      speech = h.speech;
+      outcome = h.outcome;
+      spoken = spoken_by d new same said s h.speech h.spoken;
+      history = history_by d new same h.history;
+      tills = tills_by d new same (range_with_len 1 LAST_TILL) h.tills;
+      crashes = crashes_by d new same c.disk h.crashes;
+      agency = agency_by d new same plain c.agency c.disk h.agency;
+      session = h.session;
+      ends = record {
+        cause = h.ends.cause;
+        sender = sender_by d new same c.agency.before end h.ends.sender;
+        complete = h.ends.complete;
+      };
+      time = time;
+    }
 
 module _ {D C Z G : Type 0} (issuer : List ℕ) (line said : Option (ℕ × ℕ)) (s : Sources) (c : Around D C Z G) where
   rose_served : (end : Detail) → SpeechServed issuer line said s c end → end ≡ detail.DiskFault → DiskRose c.disk

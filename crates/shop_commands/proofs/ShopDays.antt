@@ -95,16 +95,17 @@ pub record ShopLeft {D C : Type 0} (left : Type 0) (old : Parts D C) (disk_after
   pub clock : clock_after ≡ old.clock
   pub rest : left
 
--- the tills of an opened store asked while a sender ran, and this is what the day made of it
-pub record ShopDid {D C : Type 0} (h : StoreKind D C) (asks : List Asked) (kind : AgencyKind) (opened after : AgencyState)
+-- the tills of an opened store asked while a sender ran, at readings of the clock that tells this, and this is what the day made of it
+pub record ShopDid {D C : Type 0} (h : StoreKind D C) (coming : C → ℕ → Option ℕ) (asks : List Asked) (kind : AgencyKind) (opened after : AgencyState)
     (drains exact : Bool) (moment : ℕ) (old : Parts D C) (disk_after : D) (clock_after : C) : Type 0 where
   pub new : Parts D C
   pub tills : List TillReplies
   pub answer : Result (Unit {0}) DrainFault
   pub disk : disk_after ≡ new.disk
   pub clock : clock_after ≡ new.clock
+  pub time : IsLater coming old.clock new.clock
   pub run : DayRun h (root_of h.on_disk h.faults old) new
-      (shop_day h.coming asks (root_of h.on_disk h.faults old) new tills kind opened after drains answer)
+      (shop_day coming asks (root_of h.on_disk h.faults old) new tills kind opened after drains answer)
   pub behind : DrainsBehind kind drains opened after answer
   pub session : SessionSteps kind.tells exact drains moment old.state.entries new.state.entries opened after answer
   pub linked : Linked old.state.issuer (recs new.state.entries)
@@ -124,8 +125,8 @@ pub record IsDayOf {D C Z G : Type 0} (issuer : List ℕ) (asks : List Asked) (p
       (c.agency.after.faults < 2 ^ 64 - 1 → c.agency.before.faults + MAX_LINK_FAULTS ≤ c.agency.after.faults)
   pub time : LeavesTime None c.clock c.sleeper
 
-module _ {D C Z G : Type 0} (h : StoreKind D C) (issuer : List ℕ) (asks : List Asked) (plan : Plan) (disk disk_after : D)
-    (clock clock_after : C) (z : Sleepers Z) (a : Agencies G) (opened : Parts D C) (s : Sinks)
+module _ {D C Z G : Type 0} (h : StoreKind D C) (coming : C → ℕ → Option ℕ) (issuer : List ℕ) (asks : List Asked) (plan : Plan)
+    (disk disk_after : D) (clock clock_after : C) (z : Sleepers Z) (a : Agencies G) (opened : Parts D C) (s : Sinks)
     (is_opened : IsOpened issuer h disk clock opened) (reads : (d : D) → IsTrue h.tells → IsImage (h.on_disk d).now (h.on_disk d).content)
     (rules_tell : IsTrue a.kind.keeps_rules → IsTrue a.kind.tells) where
   own : opened.state.issuer ≡ issuer
@@ -138,7 +139,7 @@ module _ {D C Z G : Type 0} (h : StoreKind D C) (issuer : List ℕ) (asks : List
   call = record {
     sink = s;
     disk = this_disk h.tells h.on_disk h.faults disk disk_after;
-    clock = this_clock h.coming clock clock_after;
+    clock = this_clock coming clock clock_after;
     sleeper = z;
     agency = a;
   }
@@ -174,7 +175,7 @@ module _ {D C Z G : Type 0} (h : StoreKind D C) (issuer : List ℕ) (asks : List
   }
 
   module _ (agency_state : AgencyState) (opens : OpensSession a.kind a.begun plan first a.before agency_state) (drains : Bool)
-      (r : ShopDid h asks a.kind agency_state a.after drains z.tells (z.moment z.sleeper) opened disk_after clock_after) where
+      (r : ShopDid h coming asks a.kind agency_state a.after drains z.tells (z.moment z.sleeper) opened disk_after clock_after) where
     abbrev pub outcome : Outcome
     outcome = record {
       version = opened.state.version;
@@ -191,7 +192,7 @@ module _ {D C Z G : Type 0} (h : StoreKind D C) (issuer : List ℕ) (asks : List
 
     -- the day of this version and issuer, and from this clock on
     abbrev at : Version → List ℕ → C → Day
-    at v n c = record day { issuer = n; version = v; coming = h.coming c }
+    at v n c = record day { issuer = n; version = v; coming = coming c }
 
     -- what holds of the shop's day holds of the call's
     pub here : (P : Day → Type 0) → P (at opened.state.version opened.state.issuer opened.clock) → P day
@@ -298,9 +299,6 @@ module _ {D C Z G : Type 0} (h : StoreKind D C) (issuer : List ℕ) (asks : List
           omega (arith, more, same),
     )
 
-    later : IsLater h.coming opened.clock r.new.clock
-    later = let stamped = r.run.sound.clock in record { number = stamped.number; moved = stamped.moved }
-
     -- the day of an opened store is one of its file, from its opening on
     pub day_facts : IsDayOf issuer asks plan drains call outcome
     day_facts = record {
@@ -311,8 +309,8 @@ module _ {D C Z G : Type 0} (h : StoreKind D C) (issuer : List ℕ) (asks : List
       agency = agency;
       session = r.session;
       gives_up = gives_up;
-      time = subst (λ (c : C). IsLater h.coming clock c) (sym r.clock) (subst (λ (c : C). IsLater h.coming c r.new.clock)
-          same_clock later);
+      time = subst (λ (c : C). IsLater coming clock c) (sym r.clock) (subst (λ (c : C). IsLater coming c r.new.clock)
+          same_clock r.time);
     }
 
 -- a till run by readings of one kind is one by readings of another kind that gives the same

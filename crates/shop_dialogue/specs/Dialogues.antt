@@ -72,9 +72,9 @@ pub record HasCome (left_now : Option (List ℕ)) (faults_now : ℕ) (l : Listen
   pub later : faults ≤ faults_now
   pub cause : IsCause faults faults_now first
 
--- What is spoken from this first line on, whatever its source had to give before that line: the tills knew so much before, and now.
+-- What is spoken from this first line on, by a clock with these coming answers, whatever its source had to give before that line: the tills knew so much before, and now.
 -- A source that counts each failed read failed once where a read fault is told, and else not.
-pub record SpeaksOn {C : Type 0} (coming : C → ℕ → Option ℕ) (counts : Bool) (listener : Listener) (first : Result Action SpeechEnd)
+pub record SpeaksOn {C : Type 0} (coming : ℕ → Option ℕ) (counts : Bool) (listener : Listener) (first : Result Action SpeechEnd)
     (from now : Moment) (lacked : Bool) (olds news : List (Known Item (Root C))) (how : SpeechEnd) : Type 0 where
   pub spoken : (left : Option (List ℕ)) (faults : ℕ) → ComesFirst left from.left listener first → faults ≤ from.source_faults →
       IsCause faults from.source_faults first →
@@ -91,14 +91,15 @@ drains_after speech.WriteFault = true
 drains_after speech.NoMemory = true
 drains_after speech.Stopped = false
 
--- A dialogue with a shop, which was this at its start, while its sender sends: what was said, and what it made of the shop.
-pub record DialogueRun {D C : Type 0} (h : StoreKind D C) (root : Root C) (new : Parts D C) (clock : Option (ℕ × ℕ))
+-- A dialogue with a shop, which was this at its start, while its sender sends: what was said, and what it made of the shop. These are
+-- the coming answers of the clock by which its commands were answered.
+pub record DialogueRun {D C : Type 0} (h : StoreKind D C) (coming : ℕ → Option ℕ) (root : Root C) (new : Parts D C) (clock : Option (ℕ × ℕ))
     (from now : Moment) (kind : AgencyKind) (opened after : AgencyState) (answer : Result (Unit {0}) DrainFault) (lacked : Bool)
     (how : SpeechEnd) : Type 0 where
   pub speech : Speech
   pub tills : List TillReplies
   pub how_is : speech.how ≡ how
-  pub spoken : IsSpeech clock (shop_day h.coming speech.said.asks root new tills kind opened after (drains_after how) answer) (record {
+  pub spoken : IsSpeech clock (shop_day (λ c. coming) speech.said.asks root new tills kind opened after (drains_after how) answer) (record {
     left = from.left;
     left_after = now.left;
     faults = from.source_faults;
@@ -108,4 +109,4 @@ pub record DialogueRun {D C : Type 0} (h : StoreKind D C) (root : Root C) (new :
   pub lacked_is : lacked ≡ list_any is_no_memory speech.said.replies
   pub written : IsWritten how (sink_since from now) speech.said.answers
   pub sink_later : from.sink_faults ≤ now.sink_faults
-  pub run : DayRun h root new (shop_day h.coming speech.said.asks root new tills kind opened after (drains_after how) answer)
+  pub run : DayRun h root new (shop_day (λ c. coming) speech.said.asks root new tills kind opened after (drains_after how) answer)

@@ -8,6 +8,7 @@ ghost use Rattle.sender.specs.Draining.{scene_of};
 ghost use Rattle.sender.specs.Sending.{fresh};
 ghost use Rattle.till_calls.specs.Mark.{mark_by, sight_by};
 ghost use Rattle.till_calls.specs.Root.{parts_of};
+ghost use Rattle.till_calls.specs.Sound.{IsLater};
 ghost use Rattle.till_calls.specs.Shop.{made_tills, numbers, seat_knows, seat_shop, shop_id, shop_root, till_knows, till_number};
 ghost use Rattle.till_calls.specs.Shop.{till_shop};
 ghost use Rattle.sender_session.specs.Session.{IsUndelivered, SendsOn};
@@ -36,22 +37,24 @@ use std::sync::Wait;
 use std::sync::atomic::AtomicBool;
 use std::thread::Threads;
 use till_calls::{
-    Kept, SenderSeat, Shop, Started, Till, a_run_is_told_at_the_end, a_till_adds_for_no_other,
+    Clockless, Kept, SenderSeat, Shop, Started, Till, a_run_is_told_at_the_end, a_till_adds_for_no_other,
     a_till_adds_what_is_taken, a_till_owns_records_and_stops, a_till_owns_within_what_it_knows,
 };
 
 /// A dialogue that is done: the file that it leaves, with all that it was given, and how it and the sending ended.
 #[derive(Drop)]
 pub struct DialogueDone<D: Disk, C: Clock, Z: Sleeper + Drop, G: Agency + Drop> {
-    pub opened: Opened<D, C, Z, G>,
+    pub opened: Opened<D, Clockless, Z, G>,
+    /// The clock, after its readings.
+    pub clock: C,
     pub how: SpeechEnd,
     /// Whether some command found no memory.
     pub lacked: bool,
     /// How the sending ended. Ok: no record waits, or the dialogue ended at a fault of the disk, and nothing was drained.
     pub answer: Result<(), DrainFault>,
     /// The sender and all that it had once the dialogue had ended, and at the end, as contracts see them.
-    pub met: Snapshot<Sent<D, C, G, Z>>,
-    pub left: Snapshot<Sent<D, C, G, Z>>,
+    pub met: Snapshot<Sent<D, Clockless, G, Z>>,
+    pub left: Snapshot<Sent<D, Clockless, G, Z>>,
 }
 
 // Whether a drain follows a dialogue that ended so.
@@ -72,8 +75,8 @@ struct Talk<D: Disk, C: Clock> {
 }
 
 // What a sender sends by.
-struct SenderParts<D: Disk, C: Clock, Z, G> {
-    seat: SenderSeat<D, C>,
+struct SenderParts<D: Disk, Z, G> {
+    seat: SenderSeat<D, Clockless>,
     sleeper: Z,
     agency: G,
 }
@@ -81,7 +84,7 @@ struct SenderParts<D: Disk, C: Clock, Z, G> {
 // Answers line by line to the end, and notes how it ended. A fault of the disk stops the sender before it is answered.
 fn answer_to_end<S: Source, K: Sink, D: Disk, C: Clock, T: Gate, R: Wait>(
     means: Means<'_, R, T>,
-    shop: &Shop<D, C>,
+    shop: &Shop<D, Clockless>,
     talk: &mut Talk<D, C>,
     first: &Result<Action, SpeechEnd>,
     source: &mut S,
@@ -93,10 +96,11 @@ fn answer_to_end<S: Source, K: Sink, D: Disk, C: Clock, T: Gate, R: Wait>(
     requires lacked { talk.old.speech.lacked ≡ false }
     ensures own { All (λ t. till_shop t ≡ shop_id shop.now) talk.new.speech.held.items }
     ensures numbers { map till_number talk.new.speech.held.items ≡ map till_number talk.old.speech.held.items }
-    ensures spoken { SpeaksOn C.coming S.counts talk.old.speech.listener first.now
+    ensures spoken { SpeaksOn (C.coming talk.old.speech.clock) S.counts talk.old.speech.listener first.now
         (moment_of S.left S.faults K.taken K.faults source.old sink.old)
         (moment_of S.left S.faults K.taken K.faults source.new sink.new) talk.new.speech.lacked
         (map till_knows talk.old.speech.held.items) (map till_knows talk.new.speech.held.items) talk.new.how }
+    ensures time { IsLater C.coming talk.old.speech.clock talk.new.speech.clock }
 {
     let by = SpeechMeans {
         rt: means.rt,
@@ -110,13 +114,13 @@ fn answer_to_end<S: Source, K: Sink, D: Disk, C: Clock, T: Gate, R: Wait>(
 // Answers line by line, and sends at the same time, until the dialogue has ended or the disk failed.
 fn answer_lines_with_sender<S, K, D, C, Z, G, T, R>(
     means: Means<'_, R, T>,
-    shop: &Shop<D, C>,
+    shop: &Shop<D, Clockless>,
     talk: &mut Talk<D, C>,
     first: &Result<Action, SpeechEnd>,
     source: &mut S,
     sink: &mut K,
-    sender: SenderParts<D, C, Z, G>,
-) -> Sent<D, C, G, Z>
+    sender: SenderParts<D, Z, G>,
+) -> Sent<D, Clockless, G, Z>
 where
     S: Source,
     K: Sink,
@@ -132,10 +136,11 @@ where
     requires seat { seat_shop sender.seat ≡ shop_id shop.now }
     ensures own { All (λ t. till_shop t ≡ shop_id shop.now) talk.new.speech.held.items }
     ensures numbers { map till_number talk.new.speech.held.items ≡ map till_number talk.old.speech.held.items }
-    ensures spoken { SpeaksOn C.coming S.counts talk.old.speech.listener first.now
+    ensures spoken { SpeaksOn (C.coming talk.old.speech.clock) S.counts talk.old.speech.listener first.now
         (moment_of S.left S.faults K.taken K.faults source.old sink.old)
         (moment_of S.left S.faults K.taken K.faults source.new sink.new) talk.new.speech.lacked
         (map till_knows talk.old.speech.held.items) (map till_knows talk.new.speech.held.items) talk.new.how }
+    ensures time { IsLater C.coming talk.old.speech.clock talk.new.speech.clock }
     ensures mark { mark_by (seat_shop result.seat) (seat_knows result.seat)
         ≡ mark_by (seat_shop sender.seat) (seat_knows sender.seat) }
     ensures sends { SendsOn (agency_kind G.Agency) (sight_by (seat_knows sender.seat)) (sight_by (seat_knows result.seat))
@@ -165,7 +170,8 @@ where
                 × (talk.now.speech.lacked ≡ false) }
             ensures { All (λ t. till_shop t ≡ shop_id shop.entry.now) talk.exit.now.speech.held.items
                 × (map till_number talk.exit.now.speech.held.items ≡ map till_number talk.entry.now.speech.held.items)
-                × SpeaksOn C.coming S.counts talk.entry.now.speech.listener first.entry.now
+                × IsLater C.coming talk.entry.now.speech.clock talk.exit.now.speech.clock
+                × SpeaksOn (C.coming talk.entry.now.speech.clock) S.counts talk.entry.now.speech.listener first.entry.now
                 (moment_of S.left S.faults K.taken K.faults source.entry.now sink.entry.now)
                 (moment_of S.left S.faults K.taken K.faults source.exit.now sink.exit.now)
                 talk.exit.now.speech.lacked (map till_knows talk.entry.now.speech.held.items)
@@ -174,7 +180,8 @@ where
     )
 }
 
-/// The dialogue of a shop that has just begun, from its first answered line on, if there is one. Meanwhile a sender sends what
+/// The dialogue of a shop that has just begun and has no clock of its own, by this clock, from its first answered line on, if there
+/// is one. Meanwhile a sender sends what
 /// waits to an agency whose session is open, and once it has ended the sender drains. After a command that is answered with a fault
 /// of the disk the sender makes no further turn, and nothing is drained.
 pub fn run_dialogue<
@@ -189,11 +196,12 @@ pub fn run_dialogue<
 >(
     means: Means<'_, R, T>,
     listener: Listener,
-    mut held: Vec<Till<D, C>>,
+    mut held: Vec<Till<D, Clockless>>,
     first: &Result<Action, SpeechEnd>,
     source: &mut S,
     sink: &mut K,
-    begun: Begun<D, C, Z, G>,
+    clock: C,
+    begun: Begun<D, Clockless, Z, G>,
 ) -> DialogueDone<D, C, Z, G>
     requires numbers { numbers begun.started.tills ≡ range_with_len 1 LAST_TILL }
     requires made { made_tills begun.started.tills ≡ LAST_TILL }
@@ -204,10 +212,14 @@ pub fn run_dialogue<
     //= each till ran its own of the commands, and where the drain is done each record has its line.
     ensures run { (left : Option (List ℕ)) (faults : ℕ) → ComesFirst left (S.left source.old) listener first.now →
         faults ≤ S.faults source.old → IsCause faults (S.faults source.old) first.now →
-        DialogueRun (store_kind D.Disk C.Clock) (shop_root begun.started.shop) (parts_of result.opened.store)
+        DialogueRun (store_kind D.Disk ⟦<Clockless as Clock>⟧) (C.coming clock) (shop_root begun.started.shop) (parts_of result.opened.store)
         (clock_first first.now) (moment_since left faults (K.taken sink.old) (K.faults sink.old))
         (moment_of S.left S.faults K.taken K.faults source.new sink.new) (agency_kind G.Agency)
         (agency_state_of G.Agency begun.agency) (agency_state_of G.Agency result.opened.agency) result.answer result.lacked result.how }
+
+    //= A dialogue leaves of its clock that clock after some readings.
+    //= No body: it is of `answer_lines`
+    ensures time { IsLater C.coming clock result.clock }
 
     //= Of a dialogue's source that counts its failed reads one failed where a read fault is told, and else none.
     ensures once { IsTrue S.counts → (faults : ℕ) → ComesOnce faults (S.faults source.old) first.now →
@@ -227,12 +239,12 @@ pub fn run_dialogue<
     agreement_is_kept();
     what_came_beside_is_records();
     a_session_begins();
-    a_run_is_told_at_the_end::<C>();
-    a_till_adds_what_is_taken::<C>();
-    a_till_adds_for_no_other::<C>();
-    a_till_owns_records_and_stops::<C>();
-    a_till_owns_within_what_it_knows::<C>();
-    who_sees_all_that_is_owned_sees_all::<Kept<D, C>>();
+    a_run_is_told_at_the_end::<Clockless>();
+    a_till_adds_what_is_taken::<Clockless>();
+    a_till_adds_for_no_other::<Clockless>();
+    a_till_owns_records_and_stops::<Clockless>();
+    a_till_owns_within_what_it_knows::<Clockless>();
+    who_sees_all_that_is_owned_sees_all::<Kept<D, Clockless>>();
     let Begun {
         started,
         sleeper,
@@ -249,6 +261,7 @@ pub fn run_dialogue<
             listener,
             held,
             lacked: false,
+            clock,
         },
         how: SpeechEnd::Ended,
     };
@@ -276,6 +289,7 @@ pub fn run_dialogue<
             sleeper,
             agency,
         },
+        clock: speech.clock,
         how,
         lacked: speech.lacked,
         answer,

@@ -228,7 +228,7 @@ module _ {D C : Type 0} (tells : Bool) (on_disk : D → OnDisk) (faults : D → 
         record { history = p.state.entries; torn = here.torn; items_are = items_stopped p count here.torn stopped here.torn_is },
       ))
 
-  pub took_by : (p q : Parts D C) (ask : Asked) (r : Result Reply StoreFault) → Reads p q →
+  took_by : (p q : Parts D C) (ask : Asked) (r : Result Reply StoreFault) → Reads p q →
       IsSound tells on_disk faults coming root p → Took tells on_disk faults asked root p q ask r → Outcome p ask r q
   took_by p q ask r h s t = by_stop p.stopped refl
     where

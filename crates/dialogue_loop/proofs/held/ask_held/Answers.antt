@@ -9,9 +9,13 @@ use Rattle.chain_lock.specs.Known.{Known}
 use Rattle.shop_core.specs.Answer.Requests.{Asked}
 use Rattle.shop_core.specs.declared.items.Item.{Item}
 use Rattle.till_calls.specs.Root.{Root}
+use Rattle.till_calls.specs.declared.clockless.Clockless.{Clockless as NoClock}
+use Rattle.chain_store.specs.Readings.{readings}
+use Rattle.ports.specs.Readings.{IsTold}
 use Rattle.till_calls.specs.Shop.{Asks, till_knows, till_number}
 use Rattle.dialogue_loop.specs.Looked.{Informed}
 use Rattle.dialogue_loop.proofs.InARow.{asked_on, at_place, informed_at, number_at, ran_informed, row_size}
+use Rattle.dialogue_loop.proofs.Readings.{asked_by, told_next}
 use Rattle.dialogue_loop.proofs.Looking.{informed_more, looked_asked, looked_kept}
 use Rattle.dialogue_loop.proofs.held.ask_held.Goals as goal
 
@@ -36,12 +40,15 @@ returns-clause-numbers g c =
     (c.ask-reply.ensures.same.1 ∙ ap till_number c.index_mut-till.ensures.value) ∙ c.inform_till.ensures.numbers
 
 pub returns-clause-asks : goal.returns-clause-asks
-returns-clause-asks g c = λ asks replies before even size ran.
-    let K : Type 0 = Known Item (Root g.row.C.Denot) in
+returns-clause-asks g c = λ coming asks replies before even size moved ran.
+    let K : Type 0 = Known Item (Root NoClock) in
     let items = c.inform_till.new.held.items in
     let place = c.from-place.result in
     let old = c.index_mut-till.result.now in
     let new = c.ask-reply.new.till in
+    let seconds = c.now-seconds.result in
+    let read : IsTold (coming (readings replies)) seconds =
+    told_next coming (g.C.Clock.coming c.args.clock.now) (readings replies) seconds moved c.now-seconds.ensures.told in
     let ask = c.args.ask.now in
     let inside : Asked = record { till = c.ask.inside.till; serial = c.ask.inside.serial; request = c.ask.inside.request } in
     let is_ask : inside ≡ ask = (let v = c.ask.view_is in cc) in
@@ -58,7 +65,7 @@ returns-clause-asks g c = λ asks replies before even size ran.
     omega (arith, a, e, f, at, range)) in
     let is = c.index_mut-till.ensures.value in
     let here : slice_get (map till_knows items) place ≡ Some (till_knows old) = at_place till_knows items place old within is in
-    let told : Asks g.C.Clock.coming (record inside { till = till_number old }) c.ask-reply.result (till_knows old) (till_knows new) =
+    let told : Asks (λ k n. Some seconds) (record inside { till = till_number old }) c.ask-reply.result (till_knows old) (till_knows new) =
     c.ask-reply.ensures.asks in
     let number : till_number old ≡ inside.till =
     (let a = number_at (map till_number items) place (till_number old) numbers (omega (arith, at, range)) in
@@ -66,8 +73,8 @@ returns-clause-asks g c = λ asks replies before even size ran.
     let f = ap till_number is in
     let n : till_number old ≡ 64 - place = f ∙ sym e ∙ a in
     omega (arith, n, at, range)) in
-    let step : Asks g.C.Clock.coming ask c.ask-reply.result (till_knows old) (till_knows new) =
-    subst (λ (x : Asked). Asks g.C.Clock.coming x c.ask-reply.result (till_knows old) (till_knows new))
+    let step : Asks (λ k n. Some seconds) ask c.ask-reply.result (till_knows old) (till_knows new) =
+    subst (λ (x : Asked). Asks (λ k n. Some seconds) x c.ask-reply.result (till_knows old) (till_knows new))
     (ap (λ (n : ℕ). record inside { till = n }) number ∙ is_ask) told in
     let informed : Informed (set (map till_knows items) place (till_knows new)) place 63 (map till_knows c.inform_first.new.held.items) =
     subst (λ (l : List K). Informed l place 63 (map till_knows c.inform_first.new.held.items)) (map-set till_knows items place new)
@@ -75,22 +82,25 @@ returns-clause-asks g c = λ asks replies before even size ran.
     let wide = length-map items till_knows in
     let asked = set (map till_knows items) place (till_knows new) in
     let tills : inside.till ≡ ask.till = ap (λ (x : Asked). x.till) is_ask in
-    ran_informed g.C.Clock.coming c.who_sees_on_twice_sees_on.ensures (asks ++ ask ∷ []) (replies ++ c.ask-reply.result ∷ []) before asked
+    ran_informed (λ k. coming) c.who_sees_on_twice_sees_on.ensures (asks ++ ask ∷ []) (replies ++ c.ask-reply.result ∷ []) before asked
     (map till_knows c.inform_first.new.held.items) place 63
     (let e = length-set (map till_knows items) place (till_knows new) in omega (arith, e, wide, long)) informed
-    (asked_on g.C.Clock.coming c.an_ask_goes_on_from_what_was_known_before.ensures asks replies ask c.ask-reply.result before
+    (asked_on (λ k. coming) (c.an_ask_goes_on_from_what_was_known_before.ensures (λ k. coming)) asks replies ask c.ask-reply.result before
     (map till_knows items) place (till_knows old) (till_knows new) even (omega (arith, at, range, size))
-    (omega (arith, at, range, size, tills)) here step
-    (ran_informed g.C.Clock.coming c.who_sees_on_twice_sees_on.ensures asks replies before (map till_knows c.args.held.now.items)
+    (omega (arith, at, range, size, tills)) here (asked_by coming (readings replies) seconds read ask c.ask-reply.result (till_knows old) (till_knows new) step)
+    (ran_informed (λ k. coming) c.who_sees_on_twice_sees_on.ensures asks replies before (map till_knows c.args.held.now.items)
     (map till_knows items) 63 place first_within c.inform_till.ensures.informed ran))
 
 pub returns-clause-looked : goal.returns-clause-looked
-returns-clause-looked g c = λ from asks replies looks even h.
-    let K : Type 0 = Known Item (Root g.row.C.Denot) in
+returns-clause-looked g c = λ coming from asks replies looks even moved h.
+    let K : Type 0 = Known Item (Root NoClock) in
     let items = c.inform_till.new.held.items in
     let place = c.from-place.result in
     let old = c.index_mut-till.result.now in
     let new = c.ask-reply.new.till in
+    let seconds = c.now-seconds.result in
+    let read : IsTold (coming (readings replies)) seconds =
+    told_next coming (g.C.Clock.coming c.args.clock.now) (readings replies) seconds moved c.now-seconds.ensures.told in
     let ask = c.args.ask.now in
     let inside : Asked = record { till = c.ask.inside.till; serial = c.ask.inside.serial; request = c.ask.inside.request } in
     let is_ask : inside ≡ ask = (let v = c.ask.view_is in cc) in
@@ -107,7 +117,7 @@ returns-clause-looked g c = λ from asks replies looks even h.
     omega (arith, a, e, f, at, range)) in
     let is = c.index_mut-till.ensures.value in
     let here : slice_get (map till_knows items) place ≡ Some (till_knows old) = at_place till_knows items place old within is in
-    let told : Asks g.C.Clock.coming (record inside { till = till_number old }) c.ask-reply.result (till_knows old) (till_knows new) =
+    let told : Asks (λ k n. Some seconds) (record inside { till = till_number old }) c.ask-reply.result (till_knows old) (till_knows new) =
     c.ask-reply.ensures.asks in
     let number : till_number old ≡ inside.till =
     (let a = number_at (map till_number items) place (till_number old) numbers (omega (arith, at, range)) in
@@ -115,19 +125,19 @@ returns-clause-looked g c = λ from asks replies looks even h.
     let f = ap till_number is in
     let n : till_number old ≡ 64 - place = f ∙ sym e ∙ a in
     omega (arith, n, at, range)) in
-    let step : Asks g.C.Clock.coming ask c.ask-reply.result (till_knows old) (till_knows new) =
-    subst (λ (x : Asked). Asks g.C.Clock.coming x c.ask-reply.result (till_knows old) (till_knows new))
+    let step : Asks (λ k n. Some seconds) ask c.ask-reply.result (till_knows old) (till_knows new) =
+    subst (λ (x : Asked). Asks (λ k n. Some seconds) x c.ask-reply.result (till_knows old) (till_knows new))
     (ap (λ (n : ℕ). record inside { till = n }) number ∙ is_ask) told in
     let informed : Informed (set (map till_knows items) place (till_knows new)) place 63 (map till_knows c.inform_first.new.held.items) =
     subst (λ (l : List K). Informed l place 63 (map till_knows c.inform_first.new.held.items)) (map-set till_knows items place new)
     c.inform_first.ensures.informed in
     let wide = length-map items till_knows in
     let asked = set (map till_knows items) place (till_knows new) in
-    looked_asked g.C.Clock.coming ask c.a_list_fits_what_was_known_before.ensures from asks replies looks c.ask-reply.result
-    (map till_knows items) (map till_knows c.inform_first.new.held.items) place (till_knows old) (till_knows new) even
+    looked_asked coming seconds ask c.a_list_fits_what_was_known_before.ensures from asks replies looks c.ask-reply.result
+    (map till_knows items) (map till_knows c.inform_first.new.held.items) place (till_knows old) (till_knows new) even read
     (omega (arith, wide, long)) here
     (informed_at (map till_knows c.args.held.now.items) place (map till_knows items) (till_knows old) first_within
     c.inform_till.ensures.informed here) step informed
-    (looked_kept g.C.Clock.coming from asks replies looks (map till_knows c.args.held.now.items) (map till_knows items)
+    (looked_kept (λ k. coming) from asks replies looks (map till_knows c.args.held.now.items) (map till_knows items)
     (informed_more c.a_list_fits_what_was_known_before.ensures (map till_knows c.args.held.now.items) (map till_knows items) 63 place
     c.inform_till.ensures.informed first_within) h)

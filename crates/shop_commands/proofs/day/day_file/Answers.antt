@@ -80,7 +80,7 @@ returns-in-Err-begin g c =
     let Begins : g.row.G.Denot → g.row.G.Denot → Type 0 = λ x y. IsUnbegun kind (agency_state_of g.G.Agency x) (agency_state_of g.G.Agency y)
     ⊎ OpensSession kind g.G.Agency.begun c.args.script.now.plan (parts_of o.store).state.entries (agency_state_of g.G.Agency x)
     (agency_state_of g.G.Agency y) in
-    inr (inr (inl (not_asked (store_kind g.D.Disk g.C.Clock) c.args.issuer.now c.args.script.now.asks c.args.script.now.plan
+    inr (inr (inl (not_asked (store_kind g.D.Disk g.C.Clock) g.C.Clock.coming c.args.issuer.now c.args.script.now.asks c.args.script.now.plan
     out.disk then.disk out.clock then.clock (sleeper_in g.Z.Sleeper out then) (agency_in g.G.Agency out then) (parts_of o.store)
     (this_sink g.K.Sink.taken g.K.Sink.faults c.args.sink.now c.args.sink.now) h
     c.what_a_disk_reads_is_an_image.ensures c.who_keeps_the_rules_tells.ensures _
@@ -147,20 +147,21 @@ returns-in-Ok-begin g c =
     (subst (λ (l : List TillDay). DayRunEnds (all_replies (map told_in l)) served.answer
     (length (noted c.state.result.now.entries)) (length (recs c.state.result.now.entries)) (day_text asks (map told_in l)
     c.state.result.now.entries) sink end) c.deref-in-Ok-begin.ensures.value c.print_day-detail.ensures) in
-    let did : ShopDid (store_kind g.D.Disk g.C.Clock) script.asks kind (agency_state_of g.G.Agency b.agency)
+    let did : ShopDid (store_kind g.D.Disk g.C.Clock) g.C.Clock.coming script.asks kind (agency_state_of g.G.Agency b.agency)
     (agency_state_of g.G.Agency then.agency) true g.Z.Sleeper.tells (g.Z.Sleeper.moment out.sleeper) p0 then.disk then.clock = record {
       new = new;
       tills = tills;
       answer = served.answer;
       disk = c.close-in-Ok-begin.ensures.disk;
       clock = c.close-in-Ok-begin.ensures.clock;
+      time = record { number = run.sound.clock.number; moved = run.sound.clock.moved };
       run = run;
       behind = behind;
       session = session;
       linked = c.legal_is_chained.ensures.linked p0.state.version issuer new.state.entries run.sound.legal;
       rising = λ till. c.legal_is_chained.ensures.rising p0.state.version issuer new.state.entries till run.sound.legal;
     } in
-    let facts = day_facts (store_kind g.D.Disk g.C.Clock) c.args.issuer.now script.asks script.plan out.disk then.disk out.clock
+    let facts = day_facts (store_kind g.D.Disk g.C.Clock) g.C.Clock.coming c.args.issuer.now script.asks script.plan out.disk then.disk out.clock
     then.clock (sleeper_in g.Z.Sleeper out then) (agency_in g.G.Agency out then) p0 sink h
     c.what_a_disk_reads_is_an_image.ensures c.who_keeps_the_rules_tells.ensures (agency_state_of g.G.Agency b.agency) opens true did in
     inr (inr (inr (day_done c.args.issuer.now script _ _ facts end

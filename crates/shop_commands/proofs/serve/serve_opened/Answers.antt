@@ -35,7 +35,7 @@ returns-in_default-clause-ends g c = λ issuer disk left faults is_opened comes 
     let old = post_with disk p o.sleeper o.agency in
     let new = post_with p.disk p o.sleeper o.agency in
     let rest = g.S.Source.left c.args.source.now in
-    not_begun (store_kind g.D.Disk g.C.Clock) issuer disk p p (sleeper_in g.Z.Sleeper old new) (agency_in g.G.Agency old new)
+    not_begun (store_kind g.D.Disk g.C.Clock) g.C.Clock.coming issuer disk p p (sleeper_in g.Z.Sleeper old new) (agency_in g.G.Agency old new)
     (source_since left faults rest (g.S.Source.faults c.args.source.now))
     (this_sink g.K.Sink.taken g.K.Sink.faults c.args.sink.now c.args.sink.now) (clock_first c.args.first.now) is_opened
     c.what_a_disk_reads_is_an_image.ensures c.who_keeps_the_rules_tells.ensures refl
@@ -49,7 +49,7 @@ returns-in_default-with_capacity-clause-ends g c = λ issuer disk left faults is
     let old = post_with disk p o.sleeper o.agency in
     let new = post_with p.disk p o.sleeper o.agency in
     let rest = g.S.Source.left c.args.source.now in
-    not_begun (store_kind g.D.Disk g.C.Clock) issuer disk p p (sleeper_in g.Z.Sleeper old new) (agency_in g.G.Agency old new)
+    not_begun (store_kind g.D.Disk g.C.Clock) g.C.Clock.coming issuer disk p p (sleeper_in g.Z.Sleeper old new) (agency_in g.G.Agency old new)
     (source_since left faults rest (g.S.Source.faults c.args.source.now))
     (this_sink g.K.Sink.taken g.K.Sink.faults c.args.sink.now c.args.sink.now) (clock_first c.args.first.now) is_opened
     c.what_a_disk_reads_is_an_image.ensures c.who_keeps_the_rules_tells.ensures refl
@@ -74,7 +74,7 @@ returns-in-Err-clause-ends g c = λ issuer disk left faults is_opened comes late
     ⊎ OpensSession kind g.G.Agency.begun q p.state.entries (agency_state_of g.G.Agency o.agency) (agency_state_of g.G.Agency e.agency))
     c.plain.ensures refused.2 in
     let rest = g.S.Source.left c.args.source.now in
-    not_begun (store_kind g.D.Disk g.C.Clock) issuer disk p then (sleeper_in g.Z.Sleeper old new) (agency_in g.G.Agency old new)
+    not_begun (store_kind g.D.Disk g.C.Clock) g.C.Clock.coming issuer disk p then (sleeper_in g.Z.Sleeper old new) (agency_in g.G.Agency old new)
     (source_since left faults rest (g.S.Source.faults c.args.source.now))
     (this_sink g.K.Sink.taken g.K.Sink.faults c.args.sink.now c.args.sink.now) (clock_first c.args.first.now) is_opened
     c.what_a_disk_reads_is_an_image.ensures c.who_keeps_the_rules_tells.ensures refused.0 begun
@@ -110,7 +110,7 @@ returns-in-Ok-begin-clause-ends g c = λ issuer disk left faults is_opened comes
     let now = moment_of g.S.Source.left g.S.Source.faults g.K.Sink.taken g.K.Sink.faults c.run_dialogue-opened.new.source
     c.run_dialogue-opened.new.sink in
     let h = store_kind g.D.Disk g.C.Clock in
-    let run = subst (λ (r : Root g.row.C.Denot). DialogueRun h r then clock from now kind agency_state after t.answer t.lacked t.how)
+    let run = subst (λ (r : Root g.row.C.Denot). DialogueRun h coming r then clock from now kind agency_state after t.answer t.lacked t.how)
     begun.shop.root (c.run_dialogue-opened.ensures.run left faults comes later cause) in
     let opens = subst (λ (q : Plan). OpensSession kind g.G.Agency.begun q p.state.entries (agency_state_of g.G.Agency o.agency) agency_state)
     c.plain.ensures begun.session in

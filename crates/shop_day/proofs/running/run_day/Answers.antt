@@ -83,11 +83,11 @@ returns-clause-day g c =
     let h = shared g.D.Disk.tells g.D.Disk.on_disk g.D.Disk.faults g.C.Clock.coming c.args.asks.now p (shop_root shop)
     (first_items shop) (tills_in c.args.room.days.items) told (tills_know c.args.begun.started.tills)
     (tills_know c.hand_in.new.tills) seat then ran c.requires.begun.new
-    c.a_till_owns_records_and_stops.ensures c.close.ensures.each c.close.ensures.begins c.close.ensures.since sends.shop.adds in
+    (c.a_till_owns_records_and_stops.ensures g.C.Clock.coming) c.close.ensures.each c.close.ensures.begins c.close.ensures.since sends.shop.adds in
     ended g.D.Disk.tells g.D.Disk.on_disk g.D.Disk.faults g.C.Clock.coming c.args.asks.now p (shop_root shop) (first_items shop)
     (tills_in c.args.room.days.items) told (tills_know c.args.begun.started.tills) (tills_know c.hand_in.new.tills) seat then
-    ran c.requires.begun.new kind opened after true answer
-    c.a_till_adds_for_no_other.ensures c.a_till_adds_what_is_taken.ensures
+    ran c.requires.begun.new g.C.Clock.coming kind opened after true answer
+    (c.a_till_adds_for_no_other.ensures g.C.Clock.coming) (c.a_till_adds_what_is_taken.ensures g.C.Clock.coming)
     (ap (λ (l : List Item). length l) c.requires.begun.base ∙ length-map (shop_root shop).history (λ (e : Entry). item.Entry e))
     (distinct_of (λ (d : TillDay). d.till) c.args.room.days.items c.requires.distinct) h sends.shop.notes
     (λ disk. is_stopped (first_items shop) (items_in p) (shop_root shop) (tills_know c.hand_in.new.tills) seat then h
@@ -99,10 +99,10 @@ returns-clause-day g c =
     c.close.ensures.sound
     (λ is. counts g.D.Disk.tells g.D.Disk.on_disk g.D.Disk.faults g.C.Clock.coming c.args.asks.now p (shop_root shop) (first_items shop)
     (tills_in c.args.room.days.items) told (tills_know c.args.begun.started.tills) (tills_know c.hand_in.new.tills) seat then
-    ran c.requires.begun.new answer c.a_till_owns_within_what_it_knows.ensures c.who_sees_all_that_is_owned_sees_all.ensures h
+    ran c.requires.begun.new answer (c.a_till_owns_within_what_it_knows.ensures g.C.Clock.coming) c.who_sees_all_that_is_owned_sees_all.ensures h
     (seat_knows c.hand_in.new.seat).least c.hand_in.ensures.told c.drain_rest-rest.ensures.covers
     c.drain_rest-rest.ensures.delivered)
-    (sends_beside g.D.Disk.tells g.D.Disk.on_disk g.D.Disk.faults g.C.Clock.coming p (shop_root shop) (first_items shop)
+    (sends_beside g.D.Disk.tells g.D.Disk.on_disk g.D.Disk.faults g.C.Clock.coming g.C.Clock.coming p (shop_root shop) (first_items shop)
     (tills_know c.hand_in.new.tills) seat then h c.close.ensures.sound c.requires.begun.base c.requires.begun.legal c.args.asks.now
     told kind opened after true c.drain_rest-rest.result.sender answer sends c.agreement_is_kept.ensures.records
     c.a_session_begins.ensures.session c.a_session_begins.ensures.careful)
@@ -148,8 +148,8 @@ returns-clause-steps g c =
     let h = shared g.D.Disk.tells g.D.Disk.on_disk g.D.Disk.faults g.C.Clock.coming c.args.asks.now p (shop_root shop)
     (first_items shop) (tills_in c.args.room.days.items) told (tills_know c.args.begun.started.tills)
     (tills_know c.hand_in.new.tills) seat then ran c.requires.begun.new
-    c.a_till_owns_records_and_stops.ensures c.close.ensures.each c.close.ensures.begins c.close.ensures.since sends.shop.adds in
-    whole_session g.D.Disk.tells g.D.Disk.on_disk g.D.Disk.faults g.C.Clock.coming p (shop_root shop) (first_items shop)
+    (c.a_till_owns_records_and_stops.ensures g.C.Clock.coming) c.close.ensures.each c.close.ensures.begins c.close.ensures.since sends.shop.adds in
+    whole_session g.D.Disk.tells g.D.Disk.on_disk g.D.Disk.faults g.C.Clock.coming g.C.Clock.coming p (shop_root shop) (first_items shop)
     (tills_know c.hand_in.new.tills) seat then h c.close.ensures.sound c.requires.begun.base c.requires.begun.legal c.args.asks.now
     told kind opened after true c.drain_rest-rest.result.sender answer sends
     c.what_came_beside_is_records.ensures.quiet c.what_came_beside_is_records.ensures.own g.Z.Sleeper.tells
