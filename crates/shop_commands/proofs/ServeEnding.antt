@@ -37,7 +37,12 @@ use Rattle.shop_core.specs.Answer.Requests.{Asked}
 use Rattle.shop_core.specs.File.Files.{StandsFor}
 use Rattle.shop_core.specs.History.{History, recs, noted}
 use Rattle.shop_core.specs.Rising.{SerialsRise}
-use Rattle.till_calls.specs.Root.{Parts, Root, root_of}
+use Rattle.chain_disk.specs.declared.disk.Disk as disk
+use Rattle.chain_store.specs.Store.{clock_of, journal_of, state_of, torn_of}
+use Rattle.chain_store.specs.declared.store.Store.{Store}
+use Rattle.journal.specs.Journal.{disk_of, end_of, stopped_of}
+use Rattle.journal.specs.declared.journal.Journal.{Journal}
+use Rattle.till_calls.specs.Root.{Parts, Root, parts_of, root_of}
 use Rattle.till_calls.specs.Sound.{IsLater}
 use Rattle.shop_drain.specs.Opening.{IsUnbegun, IsOpened}
 use Rattle.sender_session.specs.Contradictions.{ShowsLast}
@@ -391,6 +396,30 @@ module _ {D C Z O P G : Type 0} (issuer : List ℕ) (said : Option (ℕ × ℕ))
         };
         time = (clock, sleeper);
       })
+
+-- the parts of a store that had no clock for a while, and of which nothing else changed
+same_parts : {D C : Type 0} (p q : Parts D C) → p.state ≡ q.state → p.disk ≡ q.disk → p.gate ≡ q.gate → p.stopped ≡ q.stopped →
+    p.torn ≡ q.torn → p.clock ≡ q.clock → p ≡ q
+same_parts {D} {C} p q a b c d e f =
+    ap (λ (x : History). record p { state = x }) a ∙
+    ap (λ (x : D). record p { state = q.state; disk = x }) b ∙
+    ap (λ (x : ℕ). record p { state = q.state; disk = q.disk; gate = x }) c ∙
+    ap (λ (x : Option ℕ). record p { state = q.state; disk = q.disk; gate = q.gate; stopped = x }) d ∙
+    ap (λ (x : Option Entry). record q { torn = x; clock = p.clock }) e ∙
+    ap (λ (x : C). record q { clock = x }) f
+
+pub parts_back : {D C O : Type 0} {g : disk.Ghosts D} (old back : Store D C g) (own then : Store D O g) →
+    (state_of own ≡ state_of old) × (journal_of own ≡ journal_of old) × (torn_of own ≡ torn_of old) → parts_of then ≡ parts_of own →
+    (state_of back ≡ state_of then) × (journal_of back ≡ journal_of then) × (torn_of back ≡ torn_of then) →
+    clock_of back ≡ clock_of old → parts_of back ≡ parts_of old
+parts_back {D} {C} {O} {g} old back own then a same b clock =
+    same_parts (parts_of back) (parts_of old)
+    (b.0 ∙ ap (λ (p : Parts D O). p.state) same ∙ a.0)
+    (ap (λ (j : Journal D g). disk_of j) b.1 ∙ ap (λ (p : Parts D O). p.disk) same ∙ ap (λ (j : Journal D g). disk_of j) a.1)
+    (ap (λ (j : Journal D g). end_of j) b.1 ∙ ap (λ (p : Parts D O). p.gate) same ∙ ap (λ (j : Journal D g). end_of j) a.1)
+    (ap (λ (j : Journal D g). stopped_of j) b.1 ∙ ap (λ (p : Parts D O). p.stopped) same ∙ ap (λ (j : Journal D g). stopped_of j) a.1)
+    (b.2 ∙ ap (λ (p : Parts D O). p.torn) same ∙ a.2)
+    clock
 
 -- the same dialogue, said of a call whose clock tells the same and was read while the shop had none
 pub served_by_clock : {D C Z O G : Type 0} (issuer : List ℕ) (said : Option (ℕ × ℕ)) (s : Sources) (c : Around D C Z G) (by : Clocks O)

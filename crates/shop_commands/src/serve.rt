@@ -3,7 +3,7 @@
 ghost use Rattle.std.specs.Prelude.{◌≡◌, ◌≤◌, ◌∷◌, ◌++◌, [], ℕ, true, List, length, IsTrue, Option, OnOk, None};
 ghost use Rattle.std.specs.List.{list_any};
 ghost use Rattle.chain_store.specs.Replies.{Replies, is_no_memory};
-ghost use Rattle.chain_store.specs.Store.{Ready, clock_of, journal_of, state_of, torn_of};
+ghost use Rattle.chain_store.specs.Store.{Ready, journal_of};
 ghost use Rattle.dialogue_loop.specs.Speech.{AreRepliesOf, ComesOnce, IsWritten, clock_first};
 ghost use Rattle.dialogue_loop.specs.declared.speaking.SpeechEnd.TheVariants as speech;
 ghost use Rattle.dialogue.specs.Protocol.{written_for};
@@ -202,9 +202,9 @@ where
     let Ok(held) = Vec::with_capacity(means.alloc, usize::from(LAST_TILL)) else {
         return (Detail::NoMemory, opened);
     };
-    let (own, clock) = by_clock(opened, Clockless);
+    let (own, clock) = opened.with_clock(Clockless);
     match begin(means.alloc, &Plan::plain(means.alloc), &numbers, own) {
-        Err(own) => (Detail::NoMemory, by_clock(own, clock).0),
+        Err(own) => (Detail::NoMemory, own.with_clock(clock).0),
         Ok(begun) => {
             let DialogueDone {
                 opened,
@@ -216,33 +216,9 @@ where
             } = run_dialogue(means, listener, held, first, source, sink, clock, begun);
             let closed = close_speech(means.alloc, how, opened.store.state(), sink);
             let detail = speech_end(closed, lacked, &answer, opened.store.state());
-            (detail, by_clock(opened, clock).0)
+            (detail, opened.with_clock(clock).0)
         }
     }
-}
-
-// The same opened file by another clock, and the clock that it had.
-fn by_clock<D: Disk, C: Clock, B: Clock, Z, G>(
-    opened: Opened<D, C, Z, G>,
-    clock: B,
-) -> (Opened<D, B, Z, G>, C)
-    ensures store { (state_of result.0.store ≡ state_of opened.store) × (journal_of result.0.store ≡ journal_of opened.store)
-        × (torn_of result.0.store ≡ torn_of opened.store) }
-    ensures clocks { (clock_of result.0.store ≡ clock) × (result.1 ≡ clock_of opened.store) }
-    ensures rest { (result.0.sleeper ≡ opened.sleeper) × (result.0.agency ≡ opened.agency) }
-{
-    let Opened {
-        store,
-        sleeper,
-        agency,
-    } = opened;
-    let (store, before) = store.with_clock(clock);
-    let own = Opened {
-        store,
-        sleeper,
-        agency,
-    };
-    (own, before)
 }
 
 // Writes the chain line after a source that was read to its end.

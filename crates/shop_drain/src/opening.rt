@@ -41,7 +41,7 @@ impl<D: Disk, C: Clock, Z, G> Opened<D, C, Z, G> {
     ghost use Rattle.ports.specs.Counting.{counting};
 
     /// The same by another clock, and the one that it had.
-    pub(crate) fn with_clock<B: Clock>(self, clock: B) -> (Opened<D, B, Z, G>, C)
+    pub fn with_clock<B: Clock>(self, clock: B) -> (Opened<D, B, Z, G>, C)
         ensures store { (state_of result.0.store ≡ state_of self.store) × (journal_of result.0.store ≡ journal_of self.store)
             × (torn_of result.0.store ≡ torn_of self.store) }
         ensures clocks { (clock_of result.0.store ≡ clock) × (result.1 ≡ clock_of self.store) }
