@@ -1,5 +1,5 @@
 -- A dialogue, one line further.
-use Rattle.std.proofs.Common.{◌≡◌, ◌∙◌, ◌⊎◌, inl, inr, ℕ, ◌≤◌, List, [], ◌∷◌, ◌++◌, length, refl, sym, ap, subst, arith}
+use Rattle.std.proofs.Common.{◌≡◌, ◌∙◌, ◌⊎◌, inl, inr, ℕ, ◌+◌, ◌≤◌, List, [], ◌∷◌, ◌++◌, length, refl, sym, ap, subst, arith}
 use Rattle.std.proofs.Common.{Bool, true, false, ◌||◌, Option, Some, None, Result, Ok, Err, append-nil, take}
 use Rattle.std.specs.List.{AllByRecursion, list_any}
 use Rattle.std.proofs.KnownBytes.{Appends-nil, Appends-trans}
@@ -23,7 +23,7 @@ use Rattle.line_reader.specs.Lists.{AreAllLines, AreLines, InputLine}
 use Rattle.line_reader.specs.Read.{AreRead, HasRead}
 use Rattle.line_reader.specs.declared.reader.LineReader.{LineReader}
 use Rattle.ports.specs.Readings.{MovedBy}
-use Rattle.ports.specs.Sinks.{FailedIn, Wrote, WroteNothing, WrotePart}
+use Rattle.ports.specs.Sinks.{FailedIn, Sinks, Wrote, WroteNothing, WrotePart}
 use Rattle.script.specs.declared.forms.Form.{Form}
 use Rattle.script.specs.declared.forms.Form.TheVariants.{First, Later}
 use Rattle.script.specs.declared.lines.Meaning.{Meaning}
@@ -38,7 +38,7 @@ use Rattle.dialogue_loop.specs.Looked.{AreLookedAt, LookedOn, RunsAt}
 use Rattle.dialogue_loop.proofs.Readings.{moved_on}
 use Rattle.dialogue_loop.proofs.InARow.{none_ran, shop_kept, size_kept}
 use Rattle.dialogue_loop.proofs.Looking.{looked_at_end, none_looked, none_ran_at, run_at_end}
-use Rattle.dialogue_loop.specs.Speech.{AreRepliesOf, AsksOne, ComesFirst, Goes, HasAnswered, HasHeard, HearsFirst, clock_first, HearsNone, IsFirst, clock_with, FailedAtLast, HasReadPast, HasReadTo, HearsLine, IsAnswered, IsCause, IsEarly, IsRead, IsReadFault}
+use Rattle.dialogue_loop.specs.Speech.{AreRepliesOf, AsksOne, ComesFirst, Goes, GoesOnce, HasAnswered, HasHeard, HearsFirst, clock_first, HearsNone, IsFirst, clock_with, FailedAtLast, HasReadPast, HasReadTo, HearsLine, IsAnswered, IsCause, IsEarly, IsRead, IsReadFault}
 use Rattle.dialogue_loop.specs.Speech.{AnswersNone, AnswersOne, IsReplied, IsWritten, KeepsRuns, Moment, CarriesOut, DialogueSoFar, Spoken, StopsAtLast}
 use Rattle.dialogue_loop.specs.Speech.{TookToLast, passed, sink_since}
 use Rattle.dialogue_loop.specs.declared.listener.Listener.{Listener}
@@ -626,3 +626,35 @@ module _ {C : Type 0} (coming coming_now : ℕ → Option ℕ) (from now : Momen
       subst (λ (x : Action). CarriesOut coming coming coming_now x (sink_since from now) false lacked_now olds news end) (sym one)
       (subst (λ (l : Bool). CarriesOut coming coming coming_now action (sink_since from now) l lacked_now olds news end) none o) in
       first_obeyed coming coming_now from now new lacked_now olds news t end size h a b o'
+
+-- whatever a line asks for, no read fails in it
+answered_once : (s : Sinks) (text : List ℕ) (end : Option SpeechEnd) (faults : ℕ) → IsAnswered s text end → GoesOnce faults faults end
+answered_once s text None faults w = refl
+answered_once s text (Some how.WriteFault) faults w = refl
+answered_once s text (Some how.Ended) faults w = refl
+answered_once s text (Some how.ReadFault) faults w = absurd w
+answered_once s text (Some how.NoMemory) faults w = refl
+answered_once s text (Some how.Stopped) faults w = refl
+
+replied_once : (told : Result Reply StoreFault) (s : Sinks) (text : List ℕ) (end : Option SpeechEnd) (faults : ℕ) →
+    IsReplied told s text end → GoesOnce faults faults end
+replied_once told s text None faults w = refl
+replied_once told s text (Some how.WriteFault) faults w = refl
+replied_once told s text (Some how.Ended) faults w = refl
+replied_once told s text (Some how.ReadFault) faults w = absurd w
+replied_once told s text (Some how.NoMemory) faults w = refl
+replied_once told s text (Some how.Stopped) faults w = refl
+
+pub carried_once : {C : Type 0} (coming coming_old coming_new : ℕ → Option ℕ) (action : Action) (s : Sinks) (lacked lacked_now : Bool)
+    (mids news : List (Known Item (Root C))) (end : Option SpeechEnd) (faults : ℕ) →
+    CarriesOut coming coming_old coming_new action s lacked lacked_now mids news end → GoesOnce faults faults end
+carried_once coming coming_old coming_new (Write text) s lacked lacked_now mids news end faults o = answered_once s text end faults o.2
+carried_once coming coming_old coming_new (Clock start step text) s lacked lacked_now mids news end faults o =
+    answered_once s text end faults o.2
+carried_once coming coming_old coming_new (Ask ask) s lacked lacked_now mids news end faults o =
+    replied_once o.told s (reply_text ask o.told) end faults o.replied
+carried_once coming coming_old coming_new (Look asked) s lacked lacked_now mids news end faults o = by_look o.2
+  where
+    by_look : AnswersOne coming asked s mids news end ⊎ AnswersNone coming s mids news end → GoesOnce faults faults end
+    by_look (inl a) = answered_once s a.text end faults a.written
+    by_look (inr a) = subst (λ (e : Option SpeechEnd). GoesOnce faults faults e) (sym a.how) refl

@@ -36,8 +36,8 @@ inform_first-requires-clause-size g c =
 pub returns-clause-numbers : goal.returns-clause-numbers
 returns-clause-numbers g c =
     let till = c.index_mut-till.result.now in
-    c.inform_first.ensures.numbers ∙ map-set_same till_number c.inform_till.new.held.items c.from-place.result c.ask-reply.new.till till
-    (c.ask-reply.ensures.same.1 ∙ ap till_number c.index_mut-till.ensures.value) ∙ c.inform_till.ensures.numbers
+    c.inform_first.ensures.numbers ∙ map-set_same till_number c.inform_till.new.held.items c.from-place.result c.ask_at-reply.new.till till
+    (c.ask_at-reply.ensures.same.1 ∙ ap till_number c.index_mut-till.ensures.value) ∙ c.inform_till.ensures.numbers
 
 pub returns-clause-asks : goal.returns-clause-asks
 returns-clause-asks g c = λ coming asks replies before even size moved ran.
@@ -45,7 +45,7 @@ returns-clause-asks g c = λ coming asks replies before even size moved ran.
     let items = c.inform_till.new.held.items in
     let place = c.from-place.result in
     let old = c.index_mut-till.result.now in
-    let new = c.ask-reply.new.till in
+    let new = c.ask_at-reply.new.till in
     let seconds = c.now-seconds.result in
     let read : IsTold (coming (readings replies)) seconds =
     told_next coming (g.C.Clock.coming c.args.clock.now) (readings replies) seconds moved c.now-seconds.ensures.told in
@@ -65,16 +65,16 @@ returns-clause-asks g c = λ coming asks replies before even size moved ran.
     omega (arith, a, e, f, at, range)) in
     let is = c.index_mut-till.ensures.value in
     let here : slice_get (map till_knows items) place ≡ Some (till_knows old) = at_place till_knows items place old within is in
-    let told : Asks (λ k n. Some seconds) (record inside { till = till_number old }) c.ask-reply.result (till_knows old) (till_knows new) =
-    c.ask-reply.ensures.asks in
+    let told : Asks (λ k n. Some seconds) (record inside { till = till_number old }) c.ask_at-reply.result (till_knows old) (till_knows new) =
+    c.ask_at-reply.ensures.asks in
     let number : till_number old ≡ inside.till =
     (let a = number_at (map till_number items) place (till_number old) numbers (omega (arith, at, range)) in
     let e = get_or-map till_number items place old (till_number old) within in
     let f = ap till_number is in
     let n : till_number old ≡ 64 - place = f ∙ sym e ∙ a in
     omega (arith, n, at, range)) in
-    let step : Asks (λ k n. Some seconds) ask c.ask-reply.result (till_knows old) (till_knows new) =
-    subst (λ (x : Asked). Asks (λ k n. Some seconds) x c.ask-reply.result (till_knows old) (till_knows new))
+    let step : Asks (λ k n. Some seconds) ask c.ask_at-reply.result (till_knows old) (till_knows new) =
+    subst (λ (x : Asked). Asks (λ k n. Some seconds) x c.ask_at-reply.result (till_knows old) (till_knows new))
     (ap (λ (n : ℕ). record inside { till = n }) number ∙ is_ask) told in
     let informed : Informed (set (map till_knows items) place (till_knows new)) place 63 (map till_knows c.inform_first.new.held.items) =
     subst (λ (l : List K). Informed l place 63 (map till_knows c.inform_first.new.held.items)) (map-set till_knows items place new)
@@ -82,12 +82,12 @@ returns-clause-asks g c = λ coming asks replies before even size moved ran.
     let wide = length-map items till_knows in
     let asked = set (map till_knows items) place (till_knows new) in
     let tills : inside.till ≡ ask.till = ap (λ (x : Asked). x.till) is_ask in
-    ran_informed (λ k. coming) c.who_sees_on_twice_sees_on.ensures (asks ++ ask ∷ []) (replies ++ c.ask-reply.result ∷ []) before asked
+    ran_informed (λ k. coming) c.who_sees_on_twice_sees_on.ensures (asks ++ ask ∷ []) (replies ++ c.ask_at-reply.result ∷ []) before asked
     (map till_knows c.inform_first.new.held.items) place 63
     (let e = length-set (map till_knows items) place (till_knows new) in omega (arith, e, wide, long)) informed
-    (asked_on (λ k. coming) (c.an_ask_goes_on_from_what_was_known_before.ensures (λ k. coming)) asks replies ask c.ask-reply.result before
+    (asked_on (λ k. coming) (c.an_ask_goes_on_from_what_was_known_before.ensures (λ k. coming)) asks replies ask c.ask_at-reply.result before
     (map till_knows items) place (till_knows old) (till_knows new) even (omega (arith, at, range, size))
-    (omega (arith, at, range, size, tills)) here (asked_by coming (readings replies) seconds read ask c.ask-reply.result (till_knows old) (till_knows new) step)
+    (omega (arith, at, range, size, tills)) here (asked_by coming (readings replies) seconds read ask c.ask_at-reply.result (till_knows old) (till_knows new) step)
     (ran_informed (λ k. coming) c.who_sees_on_twice_sees_on.ensures asks replies before (map till_knows c.args.held.now.items)
     (map till_knows items) 63 place first_within c.inform_till.ensures.informed ran))
 
@@ -97,7 +97,7 @@ returns-clause-looked g c = λ coming from asks replies looks even moved h.
     let items = c.inform_till.new.held.items in
     let place = c.from-place.result in
     let old = c.index_mut-till.result.now in
-    let new = c.ask-reply.new.till in
+    let new = c.ask_at-reply.new.till in
     let seconds = c.now-seconds.result in
     let read : IsTold (coming (readings replies)) seconds =
     told_next coming (g.C.Clock.coming c.args.clock.now) (readings replies) seconds moved c.now-seconds.ensures.told in
@@ -117,23 +117,23 @@ returns-clause-looked g c = λ coming from asks replies looks even moved h.
     omega (arith, a, e, f, at, range)) in
     let is = c.index_mut-till.ensures.value in
     let here : slice_get (map till_knows items) place ≡ Some (till_knows old) = at_place till_knows items place old within is in
-    let told : Asks (λ k n. Some seconds) (record inside { till = till_number old }) c.ask-reply.result (till_knows old) (till_knows new) =
-    c.ask-reply.ensures.asks in
+    let told : Asks (λ k n. Some seconds) (record inside { till = till_number old }) c.ask_at-reply.result (till_knows old) (till_knows new) =
+    c.ask_at-reply.ensures.asks in
     let number : till_number old ≡ inside.till =
     (let a = number_at (map till_number items) place (till_number old) numbers (omega (arith, at, range)) in
     let e = get_or-map till_number items place old (till_number old) within in
     let f = ap till_number is in
     let n : till_number old ≡ 64 - place = f ∙ sym e ∙ a in
     omega (arith, n, at, range)) in
-    let step : Asks (λ k n. Some seconds) ask c.ask-reply.result (till_knows old) (till_knows new) =
-    subst (λ (x : Asked). Asks (λ k n. Some seconds) x c.ask-reply.result (till_knows old) (till_knows new))
+    let step : Asks (λ k n. Some seconds) ask c.ask_at-reply.result (till_knows old) (till_knows new) =
+    subst (λ (x : Asked). Asks (λ k n. Some seconds) x c.ask_at-reply.result (till_knows old) (till_knows new))
     (ap (λ (n : ℕ). record inside { till = n }) number ∙ is_ask) told in
     let informed : Informed (set (map till_knows items) place (till_knows new)) place 63 (map till_knows c.inform_first.new.held.items) =
     subst (λ (l : List K). Informed l place 63 (map till_knows c.inform_first.new.held.items)) (map-set till_knows items place new)
     c.inform_first.ensures.informed in
     let wide = length-map items till_knows in
     let asked = set (map till_knows items) place (till_knows new) in
-    looked_asked coming seconds ask c.a_list_fits_what_was_known_before.ensures from asks replies looks c.ask-reply.result
+    looked_asked coming seconds ask c.a_list_fits_what_was_known_before.ensures from asks replies looks c.ask_at-reply.result
     (map till_knows items) (map till_knows c.inform_first.new.held.items) place (till_knows old) (till_knows new) even read
     (omega (arith, wide, long)) here
     (informed_at (map till_knows c.args.held.now.items) place (map till_knows items) (till_knows old) first_within

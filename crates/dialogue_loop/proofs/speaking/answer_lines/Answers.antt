@@ -1,11 +1,13 @@
-use Rattle.std.proofs.Common.{◌≡◌, refl, None, length, map, subst, sym, arith}
+use Rattle.std.proofs.Common.{◌≡◌, ℕ, refl, None, Result, Some, length, map, subst, sym, arith}
 use Rattle.std.proofs.lemmas.List.{length-map}
 use Rattle.till_calls.specs.Shop.{till_knows, till_number}
-use Rattle.dialogue_loop.specs.Speech.{Goes, clock_first, moment_of, moment_since}
+use Rattle.dialogue_loop.specs.Speech.{ComesOnce, EndsOnce, Goes, clock_first, moment_of, moment_since}
 use Rattle.dialogue_loop.specs.declared.listener.Listener.{Listener}
 use Rattle.dialogue_loop.proofs.InARow.{row_size}
 use Rattle.dialogue_loop.proofs.Readings.{later_both, later_unread}
-use Rattle.dialogue_loop.proofs.Dialogues.{began_first, ended_first}
+use Rattle.dialogue.specs.declared.speaker.Action.{Action}
+use Rattle.dialogue_loop.specs.declared.speaking.SpeechEnd.{SpeechEnd}
+use Rattle.dialogue_loop.proofs.Dialogues.{began_first, carried_once, ended_first}
 use Rattle.dialogue_loop.proofs.speaking.answer_lines.Goals as goal
 
 pub returns-in-Err-clause-spoken : goal.returns-in-Err-clause-spoken
@@ -49,3 +51,13 @@ pub returns-in-None-clause-time : goal.returns-in-None-clause-time
 returns-in-None-clause-time g c =
     later_both g.C.Clock.coming c.args.speech.now.clock c.carry_out.new.speech.clock c.speak.new.speech.clock c.carry_out.ensures.time
     c.speak.ensures.time
+
+pub returns-in-Some-clause-once : goal.returns-in-Some-clause-once
+returns-in-Some-clause-once g c = λ counts faults first.
+    let now = g.S.Source.faults c.args.source.now in
+    let clock = g.C.Clock.coming c.args.speech.now.clock in
+    let same : now ≡ faults = subst (λ (f : Result Action SpeechEnd). ComesOnce faults now f) c.in-Ok.is first in
+    subst (λ (n : ℕ). EndsOnce faults n c.in-Some.end) (sym same)
+    (carried_once clock clock (g.C.Clock.coming c.carry_out.new.speech.clock) c.in-Ok.action _ _ _
+    (map till_knows c.args.speech.now.held.items) (map till_knows c.carry_out.new.speech.held.items) (Some c.in-Some.end) faults
+    (c.in-Some.ensures.carries_out clock))

@@ -1,9 +1,9 @@
 use Rattle.till_calls.specs.Shop.{till_knows}
-use Rattle.dialogue_loop.specs.Speech.{Goes, moment_of}
+use Rattle.dialogue_loop.specs.Speech.{Goes, GoesOnce, moment_of}
 use Rattle.dialogue_loop.specs.declared.listener.Listener.{Listener}
-use Rattle.std.proofs.Common.{map, refl, subst, sym}
+use Rattle.std.proofs.Common.{ℕ, map, refl, subst, sym}
 use Rattle.dialogue_loop.proofs.Readings.{later_unread}
-use Rattle.dialogue_loop.proofs.Dialogues.{ended_early, fault_told, carried_out}
+use Rattle.dialogue_loop.proofs.Dialogues.{ended_early, fault_told, carried_once, carried_out}
 use Rattle.dialogue_loop.proofs.speaking.one_line.Goals as goal
 
 pub returns-in-Err-clause-goes : goal.returns-in-Err-clause-goes
@@ -30,3 +30,12 @@ returns-in-Ok-clause-goes g c = λ coming clock from olds size later said.
 
 pub returns-in-Err-clause-time : goal.returns-in-Err-clause-time
 returns-in-Err-clause-time g c = later_unread g.C.Clock.coming c.args.speech.now.clock c.args.speech.now.clock refl
+
+pub returns-in-Ok-clause-once : goal.returns-in-Ok-clause-once
+returns-in-Ok-clause-once g c = λ counts.
+    let faults = g.S.Source.faults c.args.source.now in
+    let clock = g.C.Clock.coming c.args.speech.now.clock in
+    subst (λ (n : ℕ). GoesOnce faults n c.carry_out.result) (sym (c.in-Ok.ensures.once counts))
+    (carried_once clock clock (g.C.Clock.coming c.carry_out.new.speech.clock) c.in-Ok.action _ _ _
+    (map till_knows c.args.speech.now.held.items) (map till_knows c.carry_out.new.speech.held.items) c.carry_out.result faults
+    (c.carry_out.ensures.carries_out clock))
