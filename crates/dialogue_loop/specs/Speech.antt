@@ -289,7 +289,8 @@ HasAnswered l = form_of l.speaker ≡ Later
 -- the dialogue goes on, after a line that was answered, or ended so
 abbrev pub Goes : {C : Type 0} → (coming coming_now : ℕ → Option ℕ) → Option (ℕ × ℕ) → Moment → Moment → Listener → Bool →
     List (Known Item (Root C)) → List (Known Item (Root C)) → Option SpeechEnd → Type 0
-Goes coming coming_now clock from now l lacked olds news None = DialogueSoFar coming coming_now clock from now l lacked olds news × HasAnswered l
+Goes coming coming_now clock from now l lacked olds news None =
+    DialogueSoFar coming coming_now clock from now l lacked olds news × HasAnswered l
 Goes coming coming_now clock from now l lacked olds news (Some end) = Spoken coming clock from now lacked olds news end
 
 -- an answer that was written or not
@@ -346,8 +347,8 @@ pub record AnswersNone {C : Type 0} (coming : ℕ → Option ℕ) (s : Sinks) (m
       LookedOn (λ c. coming) olds asks replies looks mids → LookedOn (λ c. coming) olds asks replies looks news
 
 -- what a line asks for was done
-abbrev pub CarriesOut : {C : Type 0} → (coming coming_old coming_new : ℕ → Option ℕ) → Action → Sinks → Bool → Bool → List (Known Item (Root C)) →
-    List (Known Item (Root C)) → Option SpeechEnd → Type 0
+abbrev pub CarriesOut : {C : Type 0} → (coming coming_old coming_new : ℕ → Option ℕ) → Action → Sinks → Bool → Bool →
+    List (Known Item (Root C)) → List (Known Item (Root C)) → Option SpeechEnd → Type 0
 CarriesOut coming coming_old coming_new (Write text) s old_lacked new_lacked mids news end =
     (new_lacked ≡ old_lacked) × (news ≡ mids) × IsAnswered s text end × (coming_new ≡ coming_old)
 CarriesOut coming coming_old coming_new (Clock start step text) s old_lacked new_lacked mids news end =

@@ -186,12 +186,12 @@ fn one_line<S: Source, K: Sink, D: Disk, C: Clock, T: Gate, R: Wait>(
     requires numbers { reverse (map till_number speech.old.held.items) ≡ range_with_len 1 LAST_TILL }
     ensures own { All (λ t. till_shop t ≡ shop_id shop.now) speech.new.held.items }
     ensures numbers { map till_number speech.new.held.items ≡ map till_number speech.old.held.items }
-    ensures goes { (coming : ℕ → Option ℕ) (clock : Option (ℕ × ℕ)) (from : _) (olds : List (Known Item (Root NoClock))) → length olds ≡ LAST_TILL →
-        HasAnswered speech.old.listener →
-        DialogueSoFar coming (C.coming speech.old.clock) clock from (moment_of S.left S.faults K.taken K.faults source.old sink.old) speech.old.listener
-        speech.old.lacked olds (map till_knows speech.old.held.items) →
-        Goes coming (C.coming speech.new.clock) clock from (moment_of S.left S.faults K.taken K.faults source.new sink.new) speech.new.listener
-        speech.new.lacked olds (map till_knows speech.new.held.items) result }
+    ensures goes { (coming : ℕ → Option ℕ) (clock : Option (ℕ × ℕ)) (from : _) (olds : List (Known Item (Root NoClock))) →
+        length olds ≡ LAST_TILL → HasAnswered speech.old.listener →
+        DialogueSoFar coming (C.coming speech.old.clock) clock from (moment_of S.left S.faults K.taken K.faults source.old sink.old)
+        speech.old.listener speech.old.lacked olds (map till_knows speech.old.held.items) →
+        Goes coming (C.coming speech.new.clock) clock from (moment_of S.left S.faults K.taken K.faults source.new sink.new)
+        speech.new.listener speech.new.lacked olds (map till_knows speech.new.held.items) result }
     ensures time { IsLater C.coming speech.old.clock speech.new.clock }
     ensures once { IsTrue S.counts → GoesOnce (S.faults source.old) (S.faults source.new) result }
 {
@@ -214,10 +214,10 @@ pub fn speak<S: Source, K: Sink, D: Disk, C: Clock, T: Gate, R: Wait>(
     requires numbers { reverse (map till_number speech.old.held.items) ≡ range_with_len 1 LAST_TILL }
     ensures own { All (λ t. till_shop t ≡ shop_id shop.now) speech.new.held.items }
     ensures numbers { map till_number speech.new.held.items ≡ map till_number speech.old.held.items }
-    ensures spoken { (coming : ℕ → Option ℕ) (clock : Option (ℕ × ℕ)) (from : _) (olds : List (Known Item (Root NoClock))) → length olds ≡ LAST_TILL →
-        HasAnswered speech.old.listener →
-        DialogueSoFar coming (C.coming speech.old.clock) clock from (moment_of S.left S.faults K.taken K.faults source.old sink.old) speech.old.listener
-        speech.old.lacked olds (map till_knows speech.old.held.items) →
+    ensures spoken { (coming : ℕ → Option ℕ) (clock : Option (ℕ × ℕ)) (from : _) (olds : List (Known Item (Root NoClock))) →
+        length olds ≡ LAST_TILL → HasAnswered speech.old.listener →
+        DialogueSoFar coming (C.coming speech.old.clock) clock from (moment_of S.left S.faults K.taken K.faults source.old sink.old)
+        speech.old.listener speech.old.lacked olds (map till_knows speech.old.held.items) →
         Spoken coming clock from (moment_of S.left S.faults K.taken K.faults source.new sink.new)
         speech.new.lacked olds (map till_knows speech.new.held.items) result }
     ensures time { IsLater C.coming speech.old.clock speech.new.clock }

@@ -1,8 +1,8 @@
-use Rattle.std.proofs.Common.{rules, map, sym, subst, refl}
+use Rattle.std.proofs.Common.{rules, inl, ℕ, List, map, sym, subst, refl}
 use Rattle.dialogue.specs.declared.speaker.Action.{Action}
 use Rattle.ports.specs.Sinks.{this_sink}
 use Rattle.till_calls.specs.Shop.{till_knows}
-use Rattle.dialogue_loop.specs.Speech.{CarriesOut}
+use Rattle.dialogue_loop.specs.Speech.{CarriesOut, IsAnswered}
 use Rattle.dialogue_loop.proofs.speaking.carry_out.Goals as goal
 
 pub returns-after-speech-clause-carries_out : goal.returns-after-speech-clause-carries_out
@@ -29,4 +29,15 @@ returns-in-Ok-clause-carries_out g c = λ coming.
     let s = this_sink g.K.Sink.taken g.K.Sink.faults c.args.sink.now c.answer-in-Ok.new.sink in
     subst (λ (a : Action). CarriesOut coming clock clock a s c.args.speech.now.lacked c.args.speech.now.lacked mids news
     c.answer-in-Ok.result) (sym c.in-Look.is)
-    (refl, c.in-Ok.ensures.runs coming, search rules, refl)
+    (let l = c.in-Ok.ensures.looked coming in (
+      refl,
+      c.in-Ok.ensures.runs coming,
+      inl (record {
+        history = l.0;
+        text = c.in-Ok.text;
+        is = l.1;
+        looked = l.2;
+        written = subst (λ (t : List ℕ). IsAnswered s t c.answer-in-Ok.result) c.as_slice-in-Ok.ensures c.answer-in-Ok.ensures.answered;
+      }),
+      refl,
+    ))
