@@ -18,7 +18,7 @@ use Rattle.shop_core.specs.History.{recs, noted}
 use Rattle.shop_commands.specs.SenderEnds.{DayRunEnds}
 use Rattle.sender_session.specs.Contradictions.{ShowsLast}
 use Rattle.shop_commands.specs.SenderEnds.DayRunEnds.{done, write_fault, undelivered, contradiction, disk_fault, no_memory}
-use Rattle.shop_commands.specs.Day.{DayEnds, DayServed, FileDay, Outcome, day_of, day_text}
+use Rattle.shop_commands.specs.Day.{DayEnds, DayServed, FileDay, Outcome, StampedInTurn, day_of, day_text}
 use Rattle.sender_beside.specs.Days.{Day, TillReplies, all_replies}
 use Rattle.chain_store.specs.Clocks.{Clocks, LeftClock}
 use Rattle.shop_drain.specs.Devices.{AllDevices, Around, LeftSleeper, Sleepers, around}
@@ -30,6 +30,7 @@ use Rattle.command_ends.specs.Scripts.ScriptedEnds.{ran}
 use Rattle.sender_beside.specs.Tills.{StopIs, has_asks, tills_of}
 use Rattle.sender_session.proofs.Lists.{each_of_all, each_unmap, each_weaker}
 use Rattle.command_ends.proofs.RunEnding.{not_opened_by, rose_opening}
+use Rattle.shop_commands.proofs.InTurns.{stamped_by}
 use Rattle.shop_commands.proofs.ShopDays.{IsDayOf, agency_by, crashes_by, history_by, rose_day, sender_by, session_by, tills_by}
 
 -- a till that asks for nothing is none of the tills that ask
@@ -108,11 +109,12 @@ module _ {D C Z G : Type 0} (issuer : List ℕ) (script : Script) (c : Around D 
       by_answer how (disk_fault memory kept some w) shown = inr (inr refl)
       by_answer how (no_memory w) shown = inr (inl refl)
 
-  pub day_done : (end : Detail) → map (λ (t : TillReplies). t.till) o.tills ≡ tills_of script.asks → Ends end →
+  pub day_done : StampedInTurn day → (end : Detail) → map (λ (t : TillReplies). t.till) o.tills ≡ tills_of script.asks → Ends end →
       DayServed issuer script None c end
-  day_done end are ends = record {
+  day_done stamped end are ends = record {
     outcome = o;
     history = f.history;
+    stamped = stamped;
     tills = record {
       are = are;
       served = f.served;
@@ -147,6 +149,7 @@ module _ {D C Z O P G : Type 0} (issuer : List ℕ) (script : Script) (line : �
       record {
         outcome = h.outcome;
         history = history_by d new same h.history;
+        stamped = stamped_by d new same h.stamped;
         tills = tills_by d new same (tills_of script.asks) h.tills;
         crashes = crashes_by d new same c.disk h.crashes;
         agency = agency_by d new same script.plan c.agency c.disk h.agency;

@@ -1,5 +1,6 @@
 pub mod ChainEnding
 pub mod Finished
+pub mod InTurns
 pub mod ShopDays
 pub mod DayEnding
 pub mod DayTexts

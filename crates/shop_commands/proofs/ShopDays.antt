@@ -28,7 +28,7 @@ use Rattle.shop_core.specs.History.{recs, noted}
 use Rattle.shop_core.specs.Legal.{Legal}
 use Rattle.shop_core.specs.Rising.{SerialsRise}
 use Rattle.till_calls.specs.Root.{Parts, root_of}
-use Rattle.till_calls.specs.Sound.{IsLater}
+use Rattle.till_calls.specs.Sound.{IsLater, StampedSince}
 use Rattle.shop_drain.specs.Opening.{IsUnbegun, IsOpened}
 use Rattle.sender_session.specs.Sessions.{SessionSteps}
 use Rattle.sender_beside.specs.Behind.{DrainsBehind}
@@ -37,7 +37,7 @@ use Rattle.chain_store.specs.Crashes.{SurvivesCrashes, StandsUpTo, StandsForEnd}
 use Rattle.chain_store.specs.Losing.{none_lost_in_both}
 use Rattle.shop_drain.specs.Crashes.{IsFoundSince, StandsSince}
 use Rattle.shop_commands.specs.Day.{EachCrash, EachTillOf, HistoryGoesOn, ItsAgency, NotServed, Outcome, StepsOf, TellsOfSender}
-use Rattle.shop_commands.specs.Day.{day_with}
+use Rattle.shop_commands.specs.Day.{StampedInTurn, day_with}
 use Rattle.sender_beside.specs.Days.{Day, Stop, TillReplies, all_replies, shop_day, stop_of, torn_of}
 use Rattle.shop_drain.specs.Devices.{Agencies, Around, LeftSleeper, Sleepers}
 use Rattle.sender_session.specs.Kinds.{StoreKind}
@@ -52,6 +52,7 @@ use Rattle.sender_beside.specs.Tills.ServedRun.{unasked, answered, torn as tears
 use Rattle.shop_drain.proofs.Closing.{between, either}
 use Rattle.sender_session.proofs.Lists.{each_weaker}
 use Rattle.shop_drain.proofs.Finishing.{since_found}
+use Rattle.shop_commands.proofs.InTurns.{stamped_since}
 
 -- the entry of a store's stop
 torn_same : (stopped : Option ℕ) (torn : Option Entry) → torn_in stopped torn ≡ torn_of (stop_of stopped torn)
@@ -312,6 +313,13 @@ module _ {D C Z G : Type 0} (h : StoreKind D C) (coming : C → ℕ → Option �
       time = subst (λ (c : C). IsLater coming clock c) (sym r.clock) (subst (λ (c : C). IsLater coming c r.new.clock)
           same_clock r.time);
     }
+
+    -- the readings that stamped its records since then
+    pub day_stamped : StampedSince coming (root_of h.on_disk h.faults opened) r.new.clock r.new.state.entries → StampedInTurn day
+    day_stamped stamped = here (λ (d : Day). StampedInTurn d) (record {
+      next = stamped.number;
+      in_turn = stamped_since coming (root_of h.on_disk h.faults opened) r.new.clock r.new.state.entries stamped;
+    })
 
 -- a till run by readings of one kind is one by readings of another kind that gives the same
 till_run_by : (version : Version) (issuer : List ℕ) (start end : List Entry) (old new : ℕ → Option ℕ) →

@@ -43,6 +43,7 @@ use Rattle.shop_commands.specs.Drain.{AllLeft, LeavesTime, NothingRose}
 use Rattle.command_ends.specs.Printed.{answers}
 use Rattle.chain_store.specs.Readings.{readings_of}
 use Rattle.command_ends.specs.Scripts.{ScriptedEnds}
+use Rattle.till_calls.specs.InTurn.{ReadInTurn}
 use Rattle.sender_beside.specs.Tills.{StopIs, TillServed, asks_of, has_asks, own_of, tills_of}
 use Rattle.ports.specs.Causes.{greatest_u64}
 
@@ -97,6 +98,13 @@ pub record HistoryGoesOn (d : Day) : Type 0 where
   pub legal : Legal d.version d.issuer d.end
   pub linked : Linked d.issuer (recs d.end)
   pub rising : (till : ℕ) → SerialsRise d.end till
+
+-- Each record since the start is stamped by a reading of the clock of its own, of a number below `next`.
+pub record StampedInTurn (d : Day) : Type 0 where
+  pub next : ℕ
+  --= Along the records since the start of a day the numbers of the clock's readings that stamped them rise strictly.
+  --= No body: it is of `chain_store/Took.takes`
+  pub in_turn : ReadInTurn d.coming 0 next d.start (drop (length d.start) d.end)
 
 -- Each till of these numbers has a till run of its own asks in line order, and its records since the start are those that it was
 -- told as taken. A till that asked for nothing has no record since the start.
@@ -173,6 +181,7 @@ pub record DayServed {D C Z G : Type 0} (issuer : List ℕ) (script : Script) (l
     (end : Detail) : Type 0 where
   pub outcome : Outcome
   pub history : HistoryGoesOn (day_of issuer script line c outcome)
+  pub stamped : StampedInTurn (day_of issuer script line c outcome)
   pub tills : EachTill (day_of issuer script line c outcome)
   pub crashes : EachCrash (day_of issuer script line c outcome) c.disk
   pub agency : ItsAgency (day_of issuer script line c outcome) script.plan c.agency c.disk

@@ -23,7 +23,7 @@ use Rattle.sender_beside.specs.Tills.{DayRun, has_asks, tills_of}
 use Rattle.shop_day.specs.TillJobs.{told_in}
 use Rattle.shop_day.specs.declared.tills.TillDay.{TillDay}
 use Rattle.shop_commands.proofs.DayEnding.{day_done}
-use Rattle.shop_commands.proofs.ShopDays.{ShopDid, day_facts, not_asked}
+use Rattle.shop_commands.proofs.ShopDays.{ShopDid, day_facts, day_stamped, not_asked}
 use Rattle.shop_day.proofs.TillJobs.{same_numbers}
 use Rattle.command_ends.proofs.RunEnding.{not_opened}
 use Rattle.sender_beside.proofs.TillDays.{distinct, filter_at_most, pairs_of, within}
@@ -164,7 +164,11 @@ returns-in-Ok-begin g c =
     let facts = day_facts (store_kind g.D.Disk g.C.Clock) g.C.Clock.coming c.args.issuer.now script.asks script.plan out.disk then.disk out.clock
     then.clock (sleeper_in g.Z.Sleeper out then) (agency_in g.G.Agency out then) p0 sink h
     c.what_a_disk_reads_is_an_image.ensures c.who_keeps_the_rules_tells.ensures (agency_state_of g.G.Agency b.agency) opens true did in
-    inr (inr (inr (day_done c.args.issuer.now script _ _ facts end
+    let stamped = day_stamped (store_kind g.D.Disk g.C.Clock) g.C.Clock.coming c.args.issuer.now script.asks script.plan out.disk then.disk out.clock
+    then.clock (sleeper_in g.Z.Sleeper out then) (agency_in g.G.Agency out then) p0 sink h
+    c.what_a_disk_reads_is_an_image.ensures c.who_keeps_the_rules_tells.ensures (agency_state_of g.G.Agency b.agency) opens true did
+    run.sound.clock in
+    inr (inr (inr (day_done c.args.issuer.now script _ _ facts stamped end
     (same_numbers days ∙ c.run_day-opened.ensures.same ∙ c.in-Ok.ensures.tills ∙ ap tills_of same)
     (subst (λ (q : List Asked). DayRunEnds (all_replies tills) served.answer (length (noted new.state.entries))
     (length (recs new.state.entries)) (day_text q tills new.state.entries) sink end) same ends))))
