@@ -27,7 +27,7 @@ use Rattle.shop_commands.specs.Guard.{IsCopied, IsPartedFrom, IsUncopied, LeftUn
 use Rattle.shop_commands.specs.declared.guard.Uncopied.{Uncopied}
 use Rattle.shop_commands.specs.Guard.IsPartedFrom.{at_entry, of_other}
 use Rattle.shop_commands.specs.Guard.IsUncopied.{damaged, disk_fault, no_memory, parted}
-use Rattle.shop_commands.proofs.Follows.{opened, unstarted}
+use Rattle.shop_commands.proofs.Follows.{brought_loses_none, opened, unstarted}
 
 -- how it ends where the copy can't be opened
 unstarted_why : {D : Type 0} (tells : Bool) (on_disk : D → OnDisk) (faults : D → ℕ) (disk left : D) (version : Version)
@@ -149,8 +149,7 @@ module _ {D : Type 0} (tells : Bool) (on_disk : D → OnDisk) (faults : D → �
     images_of says (inr h) = on_from says left (h.1 says)
 
     stays_of : IsTrue tells → LeftOrFollowed tells on_disk history first left → NeverLoses (on_disk disk) (on_disk left)
-    stays_of says (inl same) = subst (λ (d : D). NeverLoses (on_disk disk) (on_disk d)) (sym same) (stays says)
-    stays_of says (inr h) = none_lost_in_both (on_disk disk) (on_disk first.disk) (on_disk left) (stays says) (h.2 says)
+    stays_of says kept = brought_loses_none tells on_disk history disk left first says (stays says) kept
 
     -- it wasn't
     pub not_brought : (end : Detail) → BringsUp tells on_disk faults version issuer history first left (Err end) →

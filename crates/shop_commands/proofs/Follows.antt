@@ -5,7 +5,7 @@ use Rattle.chain_disk.specs.Disks.{DiskRose, Disks, this_disk}
 use Rattle.chain_disk.specs.OnDisk.{OnDisk, IsImage, IsSyncFailed, LeavesNow, LeavesOnly, synced}
 use Rattle.chain_disk.specs.Runs.{Reached, follows, on_sync, on_sync_failed, settled_image, started, weaker}
 use Rattle.chain_store.specs.Crashes.{StandsBetween}
-use Rattle.chain_store.specs.Losing.{NeverLoses}
+use Rattle.chain_store.specs.Losing.{NeverLoses, none_lost_by, none_lost_in_both}
 use Rattle.chain_store.specs.Opening.{IsBegunInPart, IsDiskLost, IsFound, IsOnlySynced}
 use Rattle.chain_store.specs.Opening.IsDiskLost.{not_synced, not_read, in_part}
 use Rattle.chain_store.specs.declared.causes.LoadFault.{LoadFault}
@@ -288,6 +288,15 @@ module _ {D : Type 0} (tells : Bool) (on_disk : D → OnDisk) (faults : D → �
       (both.1 says) (λ c image. image) (λ c between. front standby.history.entries found
       (subst₂ (λ (w : Version) (n : List ℕ). StandsBetween w n standby.history.entries history c) v i between))
 
+-- and what was made sure of in it stays
+pub brought_loses_none : {D : Type 0} (tells : Bool) (on_disk : D → OnDisk) (history : List Entry) (copy after : D)
+    (standby : ChainOnDisk D) → IsTrue tells → NeverLoses (on_disk copy) (on_disk standby.disk) →
+    LeftOrFollowed tells on_disk history standby after → NeverLoses (on_disk copy) (on_disk after)
+brought_loses_none tells on_disk history copy after standby says stays (inl same) =
+    subst (λ (d : _). NeverLoses (on_disk copy) (on_disk d)) (sym same) stays
+brought_loses_none tells on_disk history copy after standby says stays (inr both) =
+    none_lost_in_both (on_disk copy) (on_disk standby.disk) (on_disk after) stays (both.2 says)
+
 -- a copy that followed, once its disk was given back
 pub followed_since : {D : Type 0} (tells : Bool) (on_disk : D → OnDisk) (history : List Entry) (old new : ChainOnDisk D) (disk : D) →
     IsPrefix old.history.entries history → disk ≡ new.disk → IsFollowing tells on_disk old new history →
@@ -310,6 +319,7 @@ only_left file tells on_disk faults copy after same reads = record {
   images = λ version issuer history says tell stands.
       subst (λ (u : OnDisk). LeavesOnly (on_disk copy) u (IsFollowImage version issuer history (on_disk copy))) (sym same)
       (untouched version issuer history (on_disk copy) (reads copy tell));
+  never_loses = λ tell. none_lost_by (on_disk copy) (on_disk after) same;
 }
 
 -- and of one that followed this history
@@ -317,8 +327,8 @@ pub only_followed : {D : Type 0} → OneHistory → NotBegunIsNeither → SoundO
     (on_disk : D → OnDisk) (faults : D → ℕ) (copy after : D) (version : Version) (issuer : List ℕ) (history : List Entry) →
     (IsTrue file.tells → StandsFor version issuer history (file.on_disk file.disk).content) →
     (IsTrue tells → LeavesOnly (on_disk copy) (on_disk after) (IsFollowImage version issuer history (on_disk copy))) →
-    OnlyFollowed file (this_disk tells on_disk faults copy after)
-only_followed one neither sound file tells on_disk faults copy after version issuer history stands images = record {
+    (IsTrue tells → NeverLoses (on_disk copy) (on_disk after)) → OnlyFollowed file (this_disk tells on_disk faults copy after)
+only_followed one neither sound file tells on_disk faults copy after version issuer history stands images stays = record {
   nothing = λ says tell none.
       absurd ((neither version issuer history (file.on_disk file.disk).content 0 none).0 (stands says));
   damaged = λ at says tell damaged.
@@ -328,4 +338,5 @@ only_followed one neither sound file tells on_disk faults copy after version iss
       subst (λ (w : Version). LeavesOnly (on_disk copy) (on_disk after) (IsFollowImage w n es (on_disk copy))) same.0
       (subst₂ (λ (i : List ℕ) (h : List Entry). LeavesOnly (on_disk copy) (on_disk after) (IsFollowImage version i h (on_disk copy)))
       same.1 same.2 (images tell));
+  never_loses = stays;
 }

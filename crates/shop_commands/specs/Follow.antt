@@ -157,6 +157,8 @@ pub record OnlyFollowed {D : Type 0} (file new : Disks D) : Type 0 where
   pub images : (version : Version) (issuer : List ℕ) (history : List Entry) → IsTrue file.tells → IsTrue new.tells →
       StandsFor version issuer history (file.on_disk file.disk).content →
       LeavesOnly (new.on_disk new.disk) (new.on_disk new.disk_after) (IsFollowImage version issuer history (new.on_disk new.disk))
+  --= What was made sure of in the copy at any moment of `follow` stays.
+  pub never_loses : IsTrue new.tells → NeverLoses (new.on_disk new.disk) (new.on_disk new.disk_after)
 
 -- the one further file is what following may leave of it
 pub record OnlyFollows {D C Z G : Type 0} (k : Disks D) (f : Further D C Z G) : Type 0 where

@@ -2,6 +2,7 @@
 ghost use Rattle.std.specs.Prelude.{◌≡◌, IsTrue};
 ghost use Rattle.chain_disk.specs.Disks.{Disks, this_disk};
 ghost use Rattle.chain_disk.specs.OnDisk.{LeavesOnly};
+ghost use Rattle.chain_store.specs.Losing.{NeverLoses};
 ghost use Rattle.ports.specs.Sinks.{this_sink};
 ghost use Rattle.report.specs.Status.{status_of};
 ghost use Rattle.shop_core.specs.File.Files.{StandsFor};
@@ -133,6 +134,7 @@ fn follow_state<K: Sink, D: Disk>(
         FollowEnds (this_sink K.taken K.faults sink.old sink.new) file (this_disk D.tells D.on_disk D.faults copy result.1) result.0 }
     ensures images { IsTrue D.tells → LeavesOnly (D.on_disk copy) (D.on_disk result.1)
         (IsFollowImage state.now.version state.now.issuer state.now.entries (D.on_disk copy)) }
+    ensures never_loses { IsTrue D.tells → NeverLoses (D.on_disk copy) (D.on_disk result.1) }
 {
     a_file_has_one_meaning();
     match Standby::start(alloc, copy, state.issuer(), state.version()) {

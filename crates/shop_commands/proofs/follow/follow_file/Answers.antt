@@ -46,3 +46,4 @@ returns-in-Ok-Begun-clause-follows g c =
     (this_disk g.D.Disk.tells g.D.Disk.on_disk g.D.Disk.faults c.args.shop.now c.load.new.disk)
     g.D.Disk.tells g.D.Disk.on_disk g.D.Disk.faults c.args.copy c.follow_state.result.1 state.version state.issuer state.entries
     (λ tells. (rw c.in-Ok-Begun.field-0-is at (c.in-Ok-Begun.ensures.content tells)).0) c.follow_state.ensures.images
+    c.follow_state.ensures.never_loses

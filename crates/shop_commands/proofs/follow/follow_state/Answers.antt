@@ -8,7 +8,7 @@ use Rattle.ports.specs.Sinks.{this_sink}
 use Rattle.report.specs.declared.status.Detail.{Detail}
 use Rattle.file_commands.proofs.Bytewise.{took_nothing}
 use Rattle.shop_commands.specs.Follow.{BringsUp, FollowEnds}
-use Rattle.shop_commands.proofs.Follows.{brought_images, followed_ends, unbrought_ends, unstarted, unstarted_end}
+use Rattle.shop_commands.proofs.Follows.{brought_images, brought_loses_none, followed_ends, unbrought_ends, unstarted, unstarted_end}
 use Rattle.shop_commands.proofs.follow.follow_state.Goals as goal
 
 pub returns-in-Err-clause-ends : goal.returns-in-Err-clause-ends
@@ -84,3 +84,13 @@ returns-in-Err-told-clause-images g c = λ tells.
     (g.met.D.Disk.reads_an_image c.args.copy tells) (c.in-Ok.ensures.version ∙ c.version.ensures)
     (c.in-Ok.ensures.issuer ∙ c.issuer.ensures) (found tells) (only tells) (c.in-Ok.ensures.unwritten tells) tells
     c.bring_up-told.ensures.images
+
+pub returns-in-Ok-told-clause-never_loses : goal.returns-in-Ok-told-clause-never_loses
+returns-in-Ok-told-clause-never_loses g c = λ tells.
+    brought_loses_none g.D.Disk.tells g.D.Disk.on_disk c.args.state.now.entries c.args.copy c.bring_up-told.result.1 c.in-Ok.standby tells
+    (c.in-Ok.ensures.never_loses tells) c.bring_up-told.ensures.images
+
+pub returns-in-Err-told-clause-never_loses : goal.returns-in-Err-told-clause-never_loses
+returns-in-Err-told-clause-never_loses g c = λ tells.
+    brought_loses_none g.D.Disk.tells g.D.Disk.on_disk c.args.state.now.entries c.args.copy c.bring_up-told.result.1 c.in-Ok.standby tells
+    (c.in-Ok.ensures.never_loses tells) c.bring_up-told.ensures.images
