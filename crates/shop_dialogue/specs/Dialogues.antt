@@ -72,8 +72,8 @@ pub record HasCome (left_now : Option (List ℕ)) (faults_now : ℕ) (l : Listen
   pub later : faults ≤ faults_now
   pub cause : IsCause faults faults_now first
 
--- What is spoken from this first line on, by a clock with these coming answers, whatever its source had to give before that line: the tills knew so much before, and now.
--- A source that counts each failed read failed once where a read fault is told, and else not.
+-- What is spoken from this first line on, by a clock with these coming answers, whatever its source had to give before that line: the
+-- tills knew so much before, and now. A source that counts each failed read failed once where a read fault is told, and else not.
 pub record SpeaksOn {C : Type 0} (coming : ℕ → Option ℕ) (counts : Bool) (listener : Listener) (first : Result Action SpeechEnd)
     (from now : Moment) (lacked : Bool) (olds news : List (Known Item (Root C))) (how : SpeechEnd) : Type 0 where
   pub spoken : (left : Option (List ℕ)) (faults : ℕ) → ComesFirst left from.left listener first → faults ≤ from.source_faults →

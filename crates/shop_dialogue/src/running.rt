@@ -180,8 +180,8 @@ where
     )
 }
 
-/// The dialogue of a shop that has just begun and has no clock of its own, by this clock, from its first answered line on, if there
-/// is one. Meanwhile a sender sends what
+/// The dialogue of a shop that has just begun and has no clock of its own, from its first answered line on, if there is one, by the
+/// clock that is given. Meanwhile a sender sends what
 /// waits to an agency whose session is open, and once it has ended the sender drains. After a command that is answered with a fault
 /// of the disk the sender makes no further turn, and nothing is drained.
 pub fn run_dialogue<
