@@ -1,3 +1,4 @@
 mod Entries
 mod Moves
+mod Losing
 mod OneCauses

@@ -2,6 +2,7 @@
 use Rattle.std.specs.Prelude.{◌≡◌, ◌≤◌, ◌⊎◌, ℕ, IsTrue, List, length}
 use Rattle.chain_disk.specs.Disks.{Disks}
 use Rattle.chain_disk.specs.OnDisk.{OnDisk, IsImage, IsSyncFailed, LeavesNow, LeavesOnly, synced}
+use Rattle.chain_store.specs.Losing.{NeverLoses}
 use Rattle.journal.specs.File.{IsNotBegun}
 use Rattle.journal.specs.Whole as whole_file
 use Rattle.record_fields.specs.declared.versions.Version.TheVariants.{One, Two}
@@ -81,6 +82,8 @@ pub record MovedOnto {D M : Type 0} (old : Disks D) (new : Disks M) : Type 0 whe
   --= No body: it is of `begin_shut`, `add_shut` and `open_shut`, whose bodies are in `journal`
   pub any_moment : IsTrue old.tells → IsTrue new.tells →
       Moves (old.on_disk old.disk).content (new.on_disk new.disk) (new.on_disk new.disk_after)
+  --= What was made sure of in the new file at any moment of a migration stays.
+  pub never_loses : IsTrue old.tells → IsTrue new.tells → NeverLoses (new.on_disk new.disk) (new.on_disk new.disk_after)
   --= After Ok each crash leaves the new disk with the old file's whole history in version Two.
   pub every_crash : IsTrue old.tells → IsTrue new.tells →
       LeavesNow (new.on_disk new.disk_after) (IsMoved (old.on_disk old.disk).content)
@@ -93,6 +96,7 @@ pub record MovedOnto {D M : Type 0} (old : Disks D) (new : Disks M) : Type 0 whe
 pub record NotMovedOnto {D M : Type 0} (old : Disks D) (new : Disks M) : Type 0 where
   pub any_moment : IsTrue old.tells → IsTrue new.tells →
       Moves (old.on_disk old.disk).content (new.on_disk new.disk) (new.on_disk new.disk_after)
+  pub never_loses : IsTrue old.tells → IsTrue new.tells → NeverLoses (new.on_disk new.disk) (new.on_disk new.disk_after)
   --= A file that it may not be moved onto is synced at most.
   pub kept : IsTrue old.tells → IsTrue new.tells →
       KeptUnlessFree (old.on_disk old.disk).content (new.on_disk new.disk) (new.on_disk new.disk_after)

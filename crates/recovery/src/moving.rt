@@ -2,7 +2,8 @@
 ghost use Rattle.std.specs.Prelude.{◌≡◌, ◌≤◌, [], List, ℕ, IsTrue, IfOk, IfErr, OnOk};
 ghost use Rattle.chain_disk.specs.Disks.{this_disk};
 ghost use Rattle.chain_disk.specs.OnDisk.{IsSettled, LeavesNow, LeavesOnly};
-ghost use Rattle.journal.specs.File.{AreBodies, IsFile};
+ghost use Rattle.chain_store.specs.Losing.{NeverLoses};
+ghost use Rattle.journal.specs.File.{AreBodies, IsFile, NeverLosesFrames};
 ghost use Rattle.record_fields.specs.declared.versions.Version.TheVariants.{One, Two};
 ghost use Rattle.shop_core.specs.File.Files.{StandsFor, bodies_of};
 ghost use Rattle.recovery.specs.Causes.{IsMoveCause, IsMoveStateCause, IsPrepareCause, IsReadCause, IsWriteCause};
@@ -100,6 +101,8 @@ fn rewrite<M: Disk>(alloc: Global, state: &State, disk: &mut M) -> Result<(), Mo
         LeavesNow (M.on_disk disk.new) (IsFile Two state.now.issuer (bodies_of Two state.now.entries))) }
     ensures any_moment { IsTrue M.tells → AreBodies (bodies_of Two state.now.entries) →
         LeavesOnly (M.on_disk disk.old) (M.on_disk disk.new) (IsShutOrWhole state.now.issuer (bodies_of Two state.now.entries)) }
+    ensures never_loses { IsTrue M.tells → AreBodies (bodies_of Two state.now.entries) →
+        NeverLosesFrames (M.on_disk disk.old) (M.on_disk disk.new) }
     ensures cause { IfErr result (IsWriteCause (this_disk M.tells M.on_disk M.faults disk.old disk.new)) }
     ensures later { M.faults disk.old ≤ M.faults disk.new }
 {
@@ -116,12 +119,15 @@ fn move_state<M: Disk>(alloc: Global, state: &State, disk: &mut M) -> Result<(),
     ensures any_moment { IsTrue M.tells → (file : List ℕ) → StandsFor One state.now.issuer state.now.entries file →
         LeavesOnly (M.on_disk disk.old) (M.on_disk disk.new)
         (IsMoveImage state.now.issuer state.now.entries (M.on_disk disk.old)) }
+    ensures never_loses { IsTrue M.tells → (file : List ℕ) → StandsFor One state.now.issuer state.now.entries file →
+        NeverLoses (M.on_disk disk.old) (M.on_disk disk.new) }
     ensures kept { IsTrue M.tells → KeptUnlessShut state.now.issuer (M.on_disk disk.old) (M.on_disk disk.new) }
     ensures cause { IfErr result (IsMoveStateCause state.now.issuer (this_disk M.tells M.on_disk M.faults disk.old disk.new)) }
     ensures later { M.faults disk.old ≤ M.faults disk.new }
 {
     an_encoding_is_a_body();
     a_legal_history_is_legal_in_version_two();
+    a_file_has_one_meaning();
     disk.sync()?;
     prepare(disk, state.issuer())?;
     rewrite(alloc, state, disk)?;

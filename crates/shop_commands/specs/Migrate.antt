@@ -2,6 +2,7 @@
 use Rattle.std.specs.Prelude.{◌≡◌, ℕ, [], ◌∷◌, IsTrue}
 use Rattle.chain_disk.specs.Disks.{Disks, this_disk}
 use Rattle.chain_disk.specs.OnDisk.{LeavesNow}
+use Rattle.chain_store.specs.Losing.{NeverLoses}
 use Rattle.ports.specs.Sinks.{Sinks, WroteNothing}
 use Rattle.recovery.specs.Causes.{IsMoveCause}
 use Rattle.recovery.specs.Moving.{HasCounts, IsMoved, KeptUnlessFree, MayBeMoved, Moves}
@@ -51,6 +52,9 @@ pub record OnlyMoved {D : Type 0} (old new : Disks D) : Type 0 where
   --= A file that the old one can't be moved onto is synced at most.
   pub kept : IsTrue old.tells → IsTrue new.tells →
       KeptUnlessFree (old.on_disk old.disk).content (new.on_disk new.disk) (new.on_disk new.disk_after)
+  --= What was made sure of in the new file at any moment of `migrate` stays.
+  --= No body: it is of `migrate_counted`: `recovery/MovedOnto.never_loses`
+  pub never_loses : IsTrue old.tells → IsTrue new.tells → NeverLoses (new.on_disk new.disk) (new.on_disk new.disk_after)
 
 -- this post's disk, by what its kind tells as that of the first file does
 abbrev pub disk_of_post : {D C Z G : Type 0} → Disks D → Post D C Z G → Post D C Z G → Disks D

@@ -1,4 +1,5 @@
 use Rattle.std.proofs.Common.{inl, inr, le_refl, refl}
+use Rattle.chain_store.specs.Losing.{none_lost}
 use Rattle.recovery.proofs.Moves.{kept_unless_free, moves, not_moved}
 use Rattle.recovery.proofs.moving.migrate_counted.Goals as goal
 
@@ -7,6 +8,7 @@ returns-in-Err-clause-not_moved g c =
     let start = g.M.Disk.on_disk c.args.new in
     record {
       any_moment = λ _ _. not_moved (g.D.Disk.on_disk c.args.old.now).content start;
+      never_loses = λ _ _. none_lost start;
       kept = λ _ _ _. inr (inl refl);
       later = le_refl (g.M.Disk.faults c.args.new);
     }
@@ -23,6 +25,7 @@ returns-in-Ok-move_state-clause-moved g c =
       any_moment = λ tells new_tells.
           let stands = c.in-Ok.ensures.stands tells in
           moves issuer entries file start end stands (c.move_state.ensures.any_moment new_tells file stands);
+      never_loses = λ tells new_tells. c.move_state.ensures.never_loses new_tells file (c.in-Ok.ensures.stands tells);
       every_crash = λ tells new_tells.
           let stands = c.in-Ok.ensures.stands tells in
           λ f left. (issuer, entries, stands, c.in-Ok-move_state.ensures.ok new_tells file stands f left);
@@ -52,6 +55,7 @@ returns-clause-not_moved g c =
       any_moment = λ tells new_tells.
           let stands = c.in-Ok.ensures.stands tells in
           moves issuer entries file start end stands (c.move_state.ensures.any_moment new_tells file stands);
+      never_loses = λ tells new_tells. c.move_state.ensures.never_loses new_tells file (c.in-Ok.ensures.stands tells);
       kept = λ tells new_tells.
           kept_unless_free issuer entries file start end (c.in-Ok.ensures.stands tells) (c.move_state.ensures.kept new_tells);
       later = c.move_state.ensures.later;

@@ -44,16 +44,22 @@ returns-in-Err-migrated_text-clause-ends g c =
     (took_nothing (g.K.Sink.taken c.args.sink.now))
 
 pub returns-in-Err-clause-moves : goal.returns-in-Err-clause-moves
-returns-in-Err-clause-moves g c = record { images = c.in-Err.ensures.not_moved.any_moment; kept = c.in-Err.ensures.not_moved.kept }
+returns-in-Err-clause-moves g c = record {
+  images = c.in-Err.ensures.not_moved.any_moment;
+  kept = c.in-Err.ensures.not_moved.kept;
+  never_loses = c.in-Err.ensures.not_moved.never_loses;
+}
 
 pub returns-in-Ok-migrated_text-clause-moves : goal.returns-in-Ok-migrated_text-clause-moves
 returns-in-Ok-migrated_text-clause-moves g c = record {
   images = c.in-Ok.ensures.moved.any_moment;
   kept = λ old new unfree. absurd (unfree (c.in-Ok.ensures.moved.free old new));
+  never_loses = c.in-Ok.ensures.moved.never_loses;
 }
 
 pub returns-in-Err-migrated_text-clause-moves : goal.returns-in-Err-migrated_text-clause-moves
 returns-in-Err-migrated_text-clause-moves g c = record {
   images = c.in-Ok.ensures.moved.any_moment;
   kept = λ old new unfree. absurd (unfree (c.in-Ok.ensures.moved.free old new));
+  never_loses = c.in-Ok.ensures.moved.never_loses;
 }
