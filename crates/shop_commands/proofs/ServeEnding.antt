@@ -40,7 +40,7 @@ use Rattle.shop_core.specs.Rising.{SerialsRise}
 use Rattle.chain_disk.specs.declared.disk.Disk as disk
 use Rattle.chain_store.specs.Store.{clock_of, journal_of, state_of, torn_of}
 use Rattle.chain_store.specs.declared.store.Store.{Store}
-use Rattle.journal.specs.Journal.{disk_of, end_of, stopped_of}
+use Rattle.journal.specs.Journal.{disk_of, end_of as gate_of, stopped_of}
 use Rattle.journal.specs.declared.journal.Journal.{Journal}
 use Rattle.till_calls.specs.Root.{Parts, Root, parts_of, root_of}
 use Rattle.till_calls.specs.Sound.{IsLater}
@@ -416,7 +416,7 @@ parts_back {D} {C} {O} {g} old back own then a same b clock =
     same_parts (parts_of back) (parts_of old)
     (b.0 ∙ ap (λ (p : Parts D O). p.state) same ∙ a.0)
     (ap (λ (j : Journal D g). disk_of j) b.1 ∙ ap (λ (p : Parts D O). p.disk) same ∙ ap (λ (j : Journal D g). disk_of j) a.1)
-    (ap (λ (j : Journal D g). end_of j) b.1 ∙ ap (λ (p : Parts D O). p.gate) same ∙ ap (λ (j : Journal D g). end_of j) a.1)
+    (ap (λ (j : Journal D g). gate_of j) b.1 ∙ ap (λ (p : Parts D O). p.gate) same ∙ ap (λ (j : Journal D g). gate_of j) a.1)
     (ap (λ (j : Journal D g). stopped_of j) b.1 ∙ ap (λ (p : Parts D O). p.stopped) same ∙ ap (λ (j : Journal D g). stopped_of j) a.1)
     (b.2 ∙ ap (λ (p : Parts D O). p.torn) same ∙ a.2)
     clock

@@ -37,8 +37,9 @@ use std::sync::Wait;
 use std::sync::atomic::AtomicBool;
 use std::thread::Threads;
 use till_calls::{
-    Clockless, Kept, SenderSeat, Shop, Started, Till, a_run_is_told_at_the_end, a_till_adds_for_no_other,
-    a_till_adds_what_is_taken, a_till_owns_records_and_stops, a_till_owns_within_what_it_knows,
+    Clockless, Kept, SenderSeat, Shop, Started, Till, a_run_is_told_at_the_end,
+    a_till_adds_for_no_other, a_till_adds_what_is_taken, a_till_owns_records_and_stops,
+    a_till_owns_within_what_it_knows,
 };
 
 /// A dialogue that is done: the file that it leaves, with all that it was given, and how it and the sending ended.
