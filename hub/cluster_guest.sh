@@ -14,8 +14,8 @@ on() {
   [ -e "$dir/data" ] || truncate -s 64M "$dir/data"
   ip tuntap add "vfc$n" mode tap 2>/dev/null
   ip link set "vfc$n" master vfcbr up
-  setsid qemu-system-x86_64 -accel tcg -cpu max -m 640 -nographic -no-reboot -kernel "$PLACE/vmlinuz" -initrd "$PLACE/initrd" \
-    -append "console=ttyS0,115200 panic=-1 net.ifnames=0 no_timer_check quiet n=$n" \
+  setsid qemu-system-x86_64 -accel tcg,tb-size=256 -cpu max -m 640 -nographic -no-reboot -kernel "$PLACE/vmlinuz" -initrd "$PLACE/initrd" \
+    -append "console=ttyS0,115200 panic=-1 net.ifnames=0 no_timer_check nolapic_timer tsc=unstable clocksource=hpet quiet n=$n" \
     -drive "file=$dir/disk,format=qcow2,if=virtio,cache=unsafe" -drive "file=$dir/data,format=raw,if=virtio,cache=writeback" \
     -netdev "tap,id=net,ifname=vfc$n,script=no,downscript=no" -device "virtio-net-pci,netdev=net,mac=52:54:00:00:00:0$n,romfile=" \
     </dev/null >>"$dir/console" 2>&1 &

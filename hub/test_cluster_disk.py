@@ -3,11 +3,12 @@
 
     hub/test_cluster_disk.py [--program PATH] [--place FOLDER] [FAULT ..]
 
-FAULTs (all, once each), of the guest that has the group: `kill` (its process is killed), `stop` (it stands still until it is fenced), `pause` (it
-stands still for 45 s, longer than the token, and goes on), `cut` (its network). Four tills of two shops sell meanwhile. It asserts: each sale
-that was answered stands once in the survivor's file, as answered; files audit as sound; the halves never parted, and are the same bytes once
-they are joined again. There is no limit of seconds but one for hangs: the guests have no help of the processor, so the token is 30 s long,
-and each start and stop may take four times what the example says. Root alone can run it; FOLDER is that of hub/test_cluster.py, and takes 3 GB.
+FAULTs (all, once each), of the guest that has the group: `kill` (its process is killed), `stop` (it stands still until it is fenced),
+`pause` (it stands still for 72 s, until the others have just lost it, and goes on), `cut` (its network). Four tills of two shops sell
+meanwhile. It asserts: each sale that was answered stands once in the survivor's file, as answered; files audit as sound; the halves never
+parted, and are the same bytes once they are joined again. There is no limit of seconds but one for hangs: the guests have no help of the
+processor, so the token is 30 s long, and each start and stop may take eight times what the example says. Root alone can run it; FOLDER is
+that of hub/test_cluster.py, and takes 3 GB.
 """
 from __future__ import annotations
 
@@ -24,12 +25,15 @@ import sys
 import time
 from typing import Any, Dict, List
 
-from cluster_place import CLUSTER, HERE, MACHINES, Place, shops_of, text_of
+from cluster_place import BUSY, CLUSTER, HERE, MACHINES, Place, shops_of, text_of
 from test_cluster import COMMANDS, INSIDE, ClusterTill, in_namespaces, have_commands, sales_wrong
 
 FAULTS = ("kill", "stop", "pause", "cut")
 HANGS_AFTER = 1_800  # seconds after which a guest is taken to hang
-PAUSE = 45
+PAUSE = 72
+SLOWER = 8  # times that starts and stops may take longer than the example says
+# A fenced guest would be back before the other one has taken over, where a machine needs a minute: so it stays off until the test switches it on.
+STAY_OFF = BUSY + "stonith-action=off "
 OF_GUESTS = {"qemu-system-x86_64": "qemu-system-x86", "qemu-img": "qemu-utils", "busybox": "busybox-static", "mke2fs": "e2fsprogs"}
 MODULES = ("virtio_pci", "virtio_blk", "virtio_net", "crc32c_generic", "ext4", "drbd")
 HALF = 63 << 20  # bytes of a disk that are the group's: the rest has DRBD's own
@@ -126,6 +130,7 @@ class Guests(Place):
         os.symlink("../shell.socket", f"{self.files}/etc/systemd/system/sockets.target.wants/shell.socket")
         self.put("etc/corosync/corosync.conf", text_of(f"{CLUSTER}/corosync.conf").replace("token: 3000", "token: 30000"))
         resource = text_of(f"{CLUSTER}/g1.res").replace("/dev/vg/g1", "/dev/vdb")
+        resource = resource.replace("disk {", "disk { c-min-rate 0;").replace("crm-fence-peer.sh", "crm-fence-peer.sh --timeout=600 --dc-timeout=300")
         self.put("etc/drbd.d/g1.res", resource.replace("net {", "net { timeout 200; ping-int 30; ping-timeout 100; connect-int 30;"))
         for name in ("drbd", "lru_cache", "libcrc32c"):
             to = self.module(name).replace(f"{self.path}/kernel", f"{self.files}/usr")
@@ -136,8 +141,8 @@ class Guests(Place):
         """Of one group without adapters, on DRBD; all takes longer here."""
         group = re.sub(r"primitive g1-agency .*\n(?:  .*\n)*", "", text_of(f"{CLUSTER}/group.crm")).replace("g1-disk g1-agency", "g1-disk")
         made = text_of(f"{CLUSTER}/cluster.crm") + group + text_of(f"{CLUSTER}/group-drbd.crm")
-        made = made.replace("power_wait=1", "power_wait=1 power_timeout=120 shell_timeout=60 login_timeout=60")
-        return re.sub(r"(timeout|interval)=(\d+)s", lambda found: f"{found[1]}={4 * int(found[2])}s", made)
+        made = made.replace("property ", STAY_OFF).replace("power_wait=1", "power_wait=1 power_timeout=120 shell_timeout=60 login_timeout=60")
+        return re.sub(r"(timeout|interval)=(\d+)s", lambda found: f"{found[1]}={SLOWER * int(found[2])}s", made)
 
     def host(self, number: int, *words: str, seconds: float = 60) -> "subprocess.CompletedProcess[str]":
         """A word of the script, or a command in a guest."""
@@ -191,10 +196,10 @@ class Guests(Place):
         raise AssertionError(f"not within {HANGS_AFTER} s: {what}")
 
     def owner(self) -> int:
-        """The guest that has the whole group, where all is as it should be; else 0."""
+        """The guest that has the whole group, where all is as it should be; else 0. What is off is switched on."""
         for number in MACHINES:
-            if self.host(number, "status").returncode:
-                continue
+            self.host(number, "on")
+        for number in MACHINES:
             told = self.host(number, "in", "crm_mon -1r; drbdadm dstate g1; drbdadm cstate g1", seconds=300).stdout
             hub = re.search(r"g1-hub\s.*Started n(\d)", told)
             if hub is not None and "Online: [ n1 n2 n3 ]" in told and re.search(r"Unpromoted: \[ n\d \]", told) and (
@@ -247,6 +252,7 @@ class Disks:
             wrong.append("the tills don't sell again")
         after = max(till.again_after(moment) or 0 for till in self.tills)
         at = await loop.run_in_executor(None, self.whole)
+        wrong += ["nobody took over"] if at == victim and fault != "pause" else []
         for till in self.tills:
             till.stopped = True
         await asyncio.wait(selling, timeout=120)
