@@ -85,7 +85,7 @@ class KillTest(Running):
                 hubs[-1].kill_program()
         work.join(600)
         self.assertFalse(work.is_alive())
-        starts = hubs[1].state()["starts"]
+        starts = until(lambda: hubs[1].state().get("starts"), "the state")
         self.assertEqual(hubs[1].stop(), 0)
         self.stands_once(sellers, Options.sales)
         self.assertGreaterEqual(starts, 5)  # one and, after the hub's kill, five; two may fall together
